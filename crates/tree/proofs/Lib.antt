@@ -1,2 +1,5 @@
+pub mod BucketLaws
 pub mod Counts
+pub mod Firsts
 pub mod PathLaws
+pub mod PlaceLaws

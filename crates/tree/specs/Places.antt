@@ -7,6 +7,8 @@ use lib.Dec.{eqb, ltb}
 use lib.ListN.{length, getD, set}
 use Rattle.std.specs.declared.option.Option.{Option}
 use Rattle.std.specs.declared.option.Option.the-variants.{Some, None}
+use Rattle.std.specs.declared.result.Result.{Result}
+use Rattle.std.specs.declared.result.Result.the-variants.{Ok, Err}
 use Rattle.tree.specs.declared.block.Block.{Block}
 use Rattle.tree.specs.declared.place.Place.{Place}
 use Rattle.tree.specs.declared.bucket.Bucket.{Bucket}
@@ -106,3 +108,25 @@ fitsPlace b = ltb (b .number .0 + 1) (2 ^ 32)
 -- where a block enters: the lowest empty place, if its number fits
 abbrev pub entryPlace : Block → List Place → Option ℕ
 entryPlace b ps = cond (fitsPlace b) (lowestEmpty ps) None
+
+-- the places after a block has entered, where it finds one
+abbrev pub entered : Block → List Place → List Place
+entered b ps = filled ps (placeFor b) (entryPlace b ps)
+
+-- a block that finds no place is handed back
+abbrev pub handedBack : Block → Option ℕ → Result (Unit {0}) Block
+handedBack b None = Err b
+handedBack b (Some i) = Ok tt
+
+-- any forty words, read as places and laid out again
+abbrev pub ReadAndLaid : Type 0
+ReadAndLaid = (ws : List ℕ) → length ws ≡ 40 → wordsOf (placesOf ws) ≡ ws
+
+-- any bucket, laid out in words and read again
+abbrev pub LaidAndRead : Type 0
+LaidAndRead = (b : Bucket) → placesOf (wordsOf (b .places)) ≡ b .places
+
+-- where a place changes, all others keep their words
+abbrev pub KeepsOthers : Option ℕ → List Place → List Place → Type 0
+KeepsOthers None before after = after ≡ before
+KeepsOthers (Some i) before after = (k : ℕ) → (k ≡ i → ⊥) → getD after k emptyPlace ≡ getD before k emptyPlace
