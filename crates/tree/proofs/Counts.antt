@@ -13,30 +13,30 @@ use Rattle.std.specs.declared.option.Option.the-variants.{Some, None}
 use Rattle.tree.specs.Entries.{EntryCounts, fetchTo, fetchEntries, flushTo, flushEntries, dequeueEntries, dequeuesEntries, requestEntries, requestMoves, dequeuesPerRequest, total, allDepths}
 use Rattle.tree.specs.Paths.{path, isDepth}
 
-fetch-to : (D m k : ℕ) → length (fetchTo D m k) ≡ 2 * k
+pub fetch-to : (D m k : ℕ) → length (fetchTo D m k) ≡ 2 * k
 fetch-to D m zero = refl
 fetch-to D m (suc k) =
     let h = length-append (fetchTo D m k) (path D m k ∷ path D m k ∷ []) in
     let i = fetch-to D m k in
     omega arith
 
-flush-to : (D m k : ℕ) → length (flushTo D m k) ≡ 2 * k + 1
+pub flush-to : (D m k : ℕ) → length (flushTo D m k) ≡ 2 * k + 1
 flush-to D m zero = refl
 flush-to D m (suc k) =
     let h = length-append (flushTo D m k) (path D m (suc k) ∷ path D m k ∷ []) in
     let i = flush-to D m k in
     omega arith
 
-fetch-long : (D m : ℕ) → length (fetchEntries D m) ≡ 2 * D + 2
+pub fetch-long : (D m : ℕ) → length (fetchEntries D m) ≡ 2 * D + 2
 fetch-long D m = let i = fetch-to D m (suc D) in omega arith
 
-flush-long : (D m : ℕ) → length (flushEntries D m) ≡ 2 * D + 2
+pub flush-long : (D m : ℕ) → length (flushEntries D m) ≡ 2 * D + 2
 flush-long D m =
     let h = length-append (flushTo D m D) (path D m D ∷ []) in
     let i = flush-to D m D in
     omega arith
 
-dequeue-long : (D m : ℕ) → length (dequeueEntries D m) ≡ 2 * D + 4
+pub dequeue-long : (D m : ℕ) → length (dequeueEntries D m) ≡ 2 * D + 4
 dequeue-long D m = let i = flush-long D m in omega arith
 
 dequeues-long : (D : ℕ) (ms : List ℕ) → length (dequeuesEntries D ms) ≡ length ms * (2 * D + 4)

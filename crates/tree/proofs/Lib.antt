@@ -1,5 +1,6 @@
 pub mod BucketLaws
 pub mod Counts
+pub mod EntryLaws
 pub mod Firsts
 pub mod PathLaws
 pub mod PlaceLaws

@@ -1,13 +1,18 @@
 -- The prescribed entries of the access log: what each step of a row of depth D enters, oldest first.
 -- They come from leaves alone, never from what the row holds.
-use Prim.Native.Nat.{ℕ, zero, suc, _+_, _*_}
-use mathlib.Core.Bool.{Bool, true, _&&_}
+use Prim.Native.Nat.{ℕ, zero, suc, _+_, _-_, _*_, _/_, _%_, _<_, _≤_}
+use mathlib.Core.Bool.{Bool, true, cond, _&&_}
 use mathlib.Core.List.{List, [], _∷_, _++_}
 use mathlib.Core.Path.{_≡_}
-use lib.ListN.{length}
+use lib.Dec.{eqb}
+use lib.ListN.{length, getD}
+use Rattle.std.specs.declared.option.Option.{Option}
+use Rattle.std.specs.Options.{Cases}
+use Rattle.tree.specs.declared.numbers.BucketNumber.{BucketNumber}
+use Rattle.tree.specs.declared.numbers.Leaf.{Leaf}
 use Rattle.tree.specs.declared.entries.Work.{Work}
 use Rattle.tree.specs.declared.entries.Work.the-variants.{Request, Drain}
-use Rattle.tree.specs.Paths.{path, isDepth}
+use Rattle.tree.specs.Paths.{path, isDepth, isLeaf}
 
 -- each of the first k buckets of the path twice, root first: it is read and then written
 abbrev pub fetchTo : ℕ → ℕ → ℕ → List ℕ
@@ -82,3 +87,20 @@ total moves (D ∷ Ds) = moves D + total moves Ds
 abbrev pub allDepths : List ℕ → Bool
 allDepths [] = true
 allDepths (D ∷ Ds) = isDepth D && allDepths Ds
+
+-- r is entry k of a list, where there are such leaves and the list is that long
+abbrev pub Entry : Bool → List ℕ → ℕ → Option BucketNumber → Type 0
+Entry fit entries k r =
+    Cases r (fit ≡ true → length entries ≤ k) (λ v. (fit ≡ true) × (k < length entries) × (v .0 ≡ getD entries k 0))
+
+-- each is a leaf of a tree of depth D
+abbrev pub areLeaves : ℕ → List Leaf → Bool
+areLeaves D [] = true
+areLeaves D (m ∷ ms) = isLeaf D (m .0) && areLeaves D ms
+
+-- the layer of entry k of a flush: odd ones go down, even ones are the bucket above, and the last is the last bucket
+abbrev pub layerIn : ℕ → ℕ
+layerIn k = cond (eqb (k % 2) 1) (k / 2 + 1) (k / 2 - 1)
+
+abbrev pub flushLayer : ℕ → ℕ → ℕ
+flushLayer D k = cond (eqb k (2 * D + 1)) D (layerIn k)

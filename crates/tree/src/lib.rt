@@ -5,4 +5,5 @@ pub mod entries;
 pub mod numbers;
 pub mod paths;
 pub mod place;
+pub mod prescribed;
 pub mod queue;
