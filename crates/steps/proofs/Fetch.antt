@@ -3,22 +3,23 @@ use Prim.Native.Nat.{ℕ, zero, suc, _+_, _-_, _<_, _≤_}
 use mathlib.Core.Bool.{Bool, true, false, cond, not, _&&_}
 use mathlib.Core.List.{List, [], _∷_, _++_}
 use mathlib.Core.Logic.{inl, inr}
-use mathlib.Core.Path.{_≡_, refl, sym, ap, subst, _∙_}
+use mathlib.Core.Path.{_≡_, refl, sym, ap, _∙_}
 use native.Mathlib.Omega.{arith}
 use lib.Dec.{eqb}
 use Rattle.std.specs.declared.option.Option.{Option}
 use Rattle.std.specs.declared.option.Option.the-variants.{Some, None}
-use Rattle.std.proofs.shelf.Tests.{and-parts, not-true, or-parts, eqb-true, cases-lt, cond-true, cond-false}
+use Rattle.std.proofs.shelf.Tests.{and-parts, not-true, cases-lt}
 use Rattle.std.proofs.shelf.Ways.{tells}
 use Rattle.tree.specs.declared.block.Block.{Block}
 use Rattle.tree.specs.declared.place.Place.{Place}
-use Rattle.tree.specs.Blocks.{numbered, hasNumber, apart, blockOf, others}
+use Rattle.tree.specs.Blocks.{numbered, apart, blockOf, others}
 use Rattle.tree.specs.Paths.{path}
 use Rattle.tree.specs.Places.{hasBlock, blockIn, blocksIn, firstFrom, holds, placeOf, emptied, blockAt, without, taken}
 use Rattle.tree.proofs.PathLaws.{path-positive, path-rises}
 use Rattle.steps.specs.Steps.{Buckets, bucket, orElse, clearedTo, foundTo}
 use Rattle.steps.specs.Laws.{pathBlocks, FetchTakesExactly}
 use Rattle.steps.proofs.Buckets.{all-at, changed-at, bucket-other}
+use Rattle.steps.proofs.Lookups.{Lacks, lacks-from, others-first}
 use Rattle.steps.proofs.Rest.{cleared-rest}
 
 -- an index behind one more element
@@ -67,19 +68,6 @@ taken-blockOf n (p ∷ ps) =
         at true = refl
         at false = rest
 
-others-none : (n : ℕ) (bs : List Block) → hasNumber n bs ≡ false → others n bs ≡ bs
-others-none n [] h = refl
-others-none n (b ∷ bs) h =
-    let r = or-parts _ _ h in
-    cond-false (numbered n b) (others n bs) (b ∷ others n bs) (r .0) ∙ ap (λ x. b ∷ x) (others-none n bs (r .1))
-
--- a block goes, and no other has its number
-others-first : (n : ℕ) (b : Block) (bs : List Block) → numbered n b ≡ true → hasNumber (b .number .0) bs ≡ false
-    → others n (b ∷ bs) ≡ bs
-others-first n b bs e h =
-    cond-true (numbered n b) (others n bs) (b ∷ others n bs) e
-    ∙ others-none n bs (subst (λ x. hasNumber x bs ≡ false) (eqb-true _ _ e) h)
-
 without-others : (n : ℕ) (ps : List Place) → apart (blocksIn ps) ≡ true → blocksIn (without n ps) ≡ others n (blocksIn ps)
 without-others n [] a = refl
 without-others n (p ∷ ps) a =
@@ -92,8 +80,8 @@ without-others n (p ∷ ps) a =
     go false e k rest = rw (emptied-later p ps (placeOf n ps), e) (rest k)
     go true e k rest = at (numbered n (blockIn p)) refl
       where
-        alone : (hasNumber (blockIn p .number .0) (blocksIn ps) ≡ false) × (apart (blocksIn ps) ≡ true)
-        alone = let r = and-parts _ _ k in (not-true _ (r .0), r .1)
+        alone : Lacks (blockIn p .number .0) (blocksIn ps) × (apart (blocksIn ps) ≡ true)
+        alone = let r = and-parts _ _ k in (lacks-from _ _ (not-true _ (r .0)), r .1)
 
         at : (t : Bool) → numbered n (blockIn p) ≡ t
             → blocksIn (emptied (p ∷ ps) (cond t (Some 0) (later (placeOf n ps)))) ≡ others n (blockIn p ∷ blocksIn ps)

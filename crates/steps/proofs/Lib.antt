@@ -1,6 +1,11 @@
 pub mod Buckets
+pub mod Everywhere
 pub mod Fetch
+pub mod FetchOrder
+pub mod Lookups
+pub mod Order
 pub mod Placed
 pub mod Rearrange
 pub mod Rest
 pub mod Shape
+pub mod Whole

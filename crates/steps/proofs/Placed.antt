@@ -14,7 +14,7 @@ use Rattle.std.proofs.shelf.Elements.{all-set, all-push}
 use Rattle.std.proofs.shelf.Tests.{and-parts, ltb-true, eqb-true, cases-eq, false≢true, cond-both}
 use Rattle.tree.specs.declared.block.Block.{Block}
 use Rattle.tree.specs.declared.place.Place.{Place}
-use Rattle.tree.specs.Blocks.{numbered, others, accepts, arrived}
+use Rattle.tree.specs.Blocks.{accepts, arrived}
 use Rattle.tree.specs.Choice.{chosen, mayMove}
 use Rattle.tree.specs.Paths.{path}
 use Rattle.tree.specs.Places.{hasBlock, blockIn, blocksIn, emptyPlace, emptied, filled, placeFor, entryPlace}
@@ -22,6 +22,7 @@ use Rattle.tree.proofs.PathLaws.{path-positive, path-root}
 use Rattle.steps.specs.Steps.{Buckets, Row, bucket, withBucket, clearedTo, fetched, arriving, putBackAt, putBackFrom, putBack, movedBy, moved, flushedTo, flushed, dequeued, dequeuedAll}
 use Rattle.steps.specs.Laws.{OnPath, Placed, StepsKeepPlaced}
 use Rattle.steps.proofs.Buckets.{set-at, bucket-other}
+use Rattle.steps.proofs.Lookups.{others-all}
 use Rattle.tree.proofs.Firsts.{chosen-moves}
 
 -- what holds of the block of a place, if it has one
@@ -105,12 +106,6 @@ moved-held D m bs k l held = go (chosen D m (suc k) (bucket bs u) (bucket bs v))
 flushed-held : (D m : ℕ) (bs : Buckets) (k : ℕ) → k ≤ D → Held D bs → Held D (flushedTo D m bs k)
 flushed-held D m bs zero l held = held
 flushed-held D m bs (suc k) l held = moved-held D m (flushedTo D m bs k) k l (flushed-held D m bs k (omega arith) held)
-
-others-all : (P : Block → Type 0) (n : ℕ) (bs : List Block) → All P bs → All P (others n bs)
-others-all P n [] a = a
-others-all P n (b ∷ bs) a =
-    let rest = others-all P n bs (a .1) in
-    cond-both (numbered n b) (others n bs) (b ∷ others n bs) (All P) (λ _. rest) (λ _. (a .0, rest))
 
 arrived-all : (P : Block → Type 0) (b : Block) (bs : List Block) → P b → All P bs → All P (arrived b bs)
 arrived-all P b bs h a = cond-both (accepts b bs) (bs ++ b ∷ []) bs (All P) (λ _. all-push P bs b a h) (λ _. a)

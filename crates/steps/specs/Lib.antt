@@ -1,3 +1,4 @@
+pub mod Bench
 pub mod Laws
 pub mod Order
 pub mod Steps

@@ -68,7 +68,7 @@ some-place : (o : Option ℕ) → isSome o ≡ true → (j : ℕ) × (o ≡ Some
 some-place None h = absurd (false≢true h)
 some-place (Some j) h = (j, refl)
 
-positive : (b : Bool) (n : ℕ) → 0 < cond b n 0 → b ≡ true
+pub positive : (b : Bool) (n : ℕ) → 0 < cond b n 0 → b ≡ true
 positive true n h = refl
 positive false n h = absurd (let z : ⊥ = omega arith in z)
 

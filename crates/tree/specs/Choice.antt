@@ -3,14 +3,14 @@ use Prim.Native.Nat.{ℕ, zero, suc, max, _+_, _^_, _<_, _≤_}
 use mathlib.Core.Bool.{Bool, true, false, cond, _&&_}
 use mathlib.Core.List.{List, [], _∷_, map}
 use mathlib.Core.Path.{_≡_}
-use lib.Dec.{eqb, ltb}
+use lib.Dec.{eqb, leb, ltb}
 use lib.ListN.{length, getD}
 use Rattle.std.specs.declared.option.Option.{Option}
 use Rattle.std.specs.declared.option.Option.the-variants.{Some, None}
 use Rattle.std.specs.Options.{isSome, Cases}
 use Rattle.tree.specs.declared.place.Place.{Place}
-use Rattle.tree.specs.Paths.{path, sharedBuckets}
-use Rattle.tree.specs.Places.{hasBlock, lowestEmpty, firstFrom, emptyPlace}
+use Rattle.tree.specs.Paths.{isLeaf, path, sharedBuckets}
+use Rattle.tree.specs.Places.{emptied, emptyPlace, filled, firstFrom, hasBlock, lowestEmpty}
 
 -- in a flush along leaf m, the bucket at layer d lies on the own path of the place's block
 abbrev pub mayMove : ℕ → ℕ → ℕ → Place → Bool
@@ -47,3 +47,19 @@ best ss = cond (eqb (highest ss) 0) None (firstFrom (λ s. eqb s (highest ss)) 0
 -- the place whose block moves
 abbrev pub chosen : ℕ → ℕ → ℕ → List Place → List Place → Option ℕ
 chosen D m d parent child = cond (isSome (lowestEmpty child)) (best (map (score D m d) parent)) None
+
+-- the place whose block moves, if there are such a depth, leaf and layer
+abbrev pub moving : ℕ → ℕ → ℕ → List Place → List Place → Option ℕ
+moving D m d parent child = cond (isLeaf D m && leb d D) (chosen D m d parent child) None
+
+-- the lowest empty place of the child takes the words of place i of the parent
+abbrev pub movedIn : List Place → List Place → Option ℕ → List Place
+movedIn parent child None = child
+movedIn parent child (Some i) = filled child (getD parent i emptyPlace) (lowestEmpty child)
+
+-- the two buckets after the move of at most one block
+abbrev pub movedParent : ℕ → ℕ → ℕ → List Place → List Place → List Place
+movedParent D m d parent child = emptied parent (moving D m d parent child)
+
+abbrev pub movedChild : ℕ → ℕ → ℕ → List Place → List Place → List Place
+movedChild D m d parent child = movedIn parent child (moving D m d parent child)

@@ -3,6 +3,7 @@ ghost use lib.ListN.{length};
 ghost use mathlib.Core.Path.{_≡_};
 use crate::place::Place;
 
+mod choice;
 mod methods;
 
 #[derive(Clone, Copy)]

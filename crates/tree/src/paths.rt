@@ -2,7 +2,7 @@
 ghost use Prim.Native.Nat.{ℕ, _+_, _-_, _*_, _/_, _^_, _<_, _≤_};
 ghost use Rattle.std.specs.Options.{Cases as BySome};
 ghost use Rattle.tree.specs.Paths.{onPath, AgreeOn, ByHalves, OnLayer, PathLaws, childrenOf, isLeaf, sharedBuckets};
-ghost use mathlib.Core.Bool.{false, _&&_};
+ghost use mathlib.Core.Bool.{true, false, _&&_};
 ghost use mathlib.Core.Path.{_≡_};
 use crate::numbers::BucketNumber;
 use crate::numbers::Leaf;
@@ -37,7 +37,7 @@ pub fn bucket_at(depth: u32, leaf: Leaf, layer: u32) -> Option<BucketNumber>
 
 // How many buckets the paths of two leaves share, from the root on.
 pub fn shared(depth: u32, one: Leaf, other: Leaf) -> Option<u32>
-    ensures { λ r. ⌜ BySome r (isLeaf depth (one .0) && isLeaf depth (other .0) ≡ false) (λ k. (k ≡ sharedBuckets depth (one .0) (other .0)) × AgreeOn depth (one .0) (other .0) k) ⌝ }
+    ensures { λ r. ⌜ BySome r (isLeaf depth (one .0) && isLeaf depth (other .0) ≡ false) (λ k. (k ≡ sharedBuckets depth (one .0) (other .0)) × AgreeOn depth (one .0) (other .0) k × (isLeaf depth (one .0) && isLeaf depth (other .0) ≡ true)) ⌝ }
 {
     if depth == 0 || depth > DEEPEST {
         return None;

@@ -1,15 +1,19 @@
 // What a place holds, and how a block and ten words become a place.
 ghost use Prim.Native.Nat.{_+_, _≤_};
 ghost use Rattle.std.specs.declared.option.Option.the-variants.{Some, None};
+ghost use Rattle.tree.specs.Choice.{score};
+ghost use Rattle.tree.specs.Paths.{isLeaf};
 ghost use Rattle.tree.specs.Places.{blockIn, emptyPlace, fitsPlace, hasBlock, holds, isEmpty, placeAt, placeFor, placeWords};
+ghost use lib.Dec.{leb};
 ghost use lib.ListN.{drop, take};
-ghost use mathlib.Core.Bool.{cond};
+ghost use mathlib.Core.Bool.{cond, _&&_};
 ghost use mathlib.Core.List.{_++_};
 ghost use mathlib.Core.Path.{_≡_};
 use super::Place;
 use crate::block::Block;
 use crate::numbers::Leaf;
 use crate::numbers::RecordNumber;
+use crate::paths::shared;
 
 impl Place {
     // Ten zeros.
@@ -105,5 +109,19 @@ impl Place {
             leaf: Leaf(self.leaf),
             words,
         })
+    }
+
+    // How many buckets the path of the place's block shares with the path of a leaf, if they share the one at a layer: the
+    // block may then lie there. Else 0, as where there is no block, or no such depth, leaf or layer.
+    pub fn score(&self, depth: u32, leaf: Leaf, layer: u32) -> u32
+        ensures { λ r. ⌜ r ≡ cond (isLeaf depth (leaf .0) && leb layer depth) (score depth (leaf .0) layer (now (self .entry))) 0 ⌝ }
+    {
+        if self.mark == 0 {
+            return 0;
+        }
+        match shared(depth, Leaf(self.leaf), leaf) {
+            Some(buckets) if buckets > layer => buckets,
+            _ => 0,
+        }
     }
 }

@@ -1,5 +1,6 @@
 -- The layers apart are counted by the highest bit in which the leaves differ.
 use Prim.Native.Nat.{ℕ, _+_, _-_, _*_, _%_, _^_, _<_, _≤_}
+use borrow.Author.Needs.{needs}
 use native.Mathlib.Omega.{arith}
 use lib.Bits.{bitXor}
 use lib.Count.{leadingZeros}
@@ -22,4 +23,4 @@ sub-result c =
 pub returns : need.returns
 returns c =
     let a = counted _ _ _ (c .if-depth-gt-DEEPEST .left) (c .if-one-leaves .left) (c .if-other-leaves .left) .1 in
-    (shared-agree _ _ _ _ a, a)
+    (shared-agree _ _ _ _ a, a, search needs)
