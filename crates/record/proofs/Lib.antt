@@ -1,0 +1,4 @@
+pub mod Made
+pub mod Packing
+pub mod Same
+pub mod Words

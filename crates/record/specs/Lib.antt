@@ -1,0 +1,4 @@
+pub mod Calibration
+pub mod Packing
+pub mod Pages
+pub mod Words
