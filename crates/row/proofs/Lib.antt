@@ -1,0 +1,4 @@
+pub mod FetchLaws
+pub mod FlushLaws
+pub mod PutBackLaws
+pub mod RowLaws
