@@ -43,6 +43,39 @@ fn one_request_at_depth_one(rt: LibcRuntime) -> Result<(), Fail> {
     first_place_is(&mut store, 3, [1, 1, 5])
 }
 
+// A request with shown leaf 0 and flush leaves 3 and 0; a look at bucket 7; a fetch along leaf 3.
+const DOWN_AND_OUT: [u32; 29] = [
+    1,
+    1,
+    2,
+    2,
+    4,
+    4,
+    1,
+    1,
+    1,
+    3,
+    1,
+    7,
+    3,
+    7,
+    1,
+    1,
+    1,
+    2,
+    1,
+    4,
+    2,
+    4,
+    7,
+    1,
+    1,
+    3,
+    3,
+    7,
+    7,
+];
+
 // Depth 2: a block of leaf 3 goes down to bucket 7 at once, and is found there along leaf 3.
 #[test]
 fn down_and_out_again_at_depth_two(rt: LibcRuntime) -> Result<(), Fail> {
@@ -55,39 +88,6 @@ fn down_and_out_again_at_depth_two(rt: LibcRuntime) -> Result<(), Fail> {
         return Err(Fail::new("the block is not found"));
     };
     check_eq(found.leaf.0, 3)?;
-    log_is(
-        &store,
-        &[
-            1,
-            1,
-            2,
-            2,
-            4,
-            4,
-            1,
-            1,
-            1,
-            3,
-            1,
-            7,
-            3,
-            7,
-            1,
-            1,
-            1,
-            2,
-            1,
-            4,
-            2,
-            4,
-            7,
-            1,
-            1,
-            3,
-            3,
-            7,
-            7,
-        ],
-    )?;
+    log_is(&store, &DOWN_AND_OUT)?;
     first_place_is(&mut store, 7, [0, 0, 0])
 }
