@@ -1,0 +1,9 @@
+pub mod Coins
+pub mod Example
+pub mod Keeps
+pub mod Logs
+pub mod Moves
+pub mod Pairs
+pub mod Rows
+pub mod Showings
+pub mod Turns

@@ -1,0 +1,10 @@
+pub mod CoinTests
+pub mod InOrderStill
+pub mod OwnTests
+pub mod PageLeaves
+pub mod Refusals
+pub mod RowWork
+pub mod TrialAnswers
+pub mod Passed
+pub mod Outcomes
+pub mod Cleared
