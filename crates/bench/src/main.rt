@@ -1,4 +1,6 @@
 // Prints the bench cases, a line each, as they come out of the code.
+#![tactic(auto)]
+
 mod entries;
 mod flushes;
 

@@ -1,5 +1,7 @@
 // Histories of calls: what they prescribe, and what relabelled coins do. Each function carries a law of the definitions in specs/,
 // for every type of record.
+#![tactic(auto)]
+
 ghost use Rattle.history.specs.Cases.{RelabellingCase};
 ghost use Rattle.history.specs.Secrecy.{RelabelledByNextShowing, LogsAreEqual, LeavesOnlyMove, RelabellingIsOneToOne, Counted};
 

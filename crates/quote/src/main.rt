@@ -1,4 +1,6 @@
 // What a region costs: from the depths of its rows, on one line, the moves of a request and of a drain, and their bytes.
+#![tactic(auto)]
+
 mod depths;
 mod report;
 

@@ -1,4 +1,6 @@
 // The steps of a row over any bucket store.
+#![tactic(auto)]
+
 mod buckets;
 pub mod fault;
 pub mod fetching;

@@ -1,5 +1,7 @@
 // The laws of runs: what holds of every list of calls on an Oram of any record kind, any store and any map. Each function carries
 // one law.
+#![tactic(auto)]
+
 ghost use Rattle.runs.specs.Secrecy.{CoinsAreRelabelled, DifferByEightOnly, LeavesOnlyMove, LogsAreEqual, LogsArePrescribed, RelabellingIsOneToOne, SmallNeverDiffers};
 
 use posmap::interface::PositionMap;

@@ -1,4 +1,6 @@
 // The steps of a row as definitions, their laws, and the bench cases.
+#![tactic(auto)]
+
 ghost use Rattle.steps.specs.Bench.{BenchTableStands, bench_table};
 ghost use Rattle.steps.specs.Laws.{StepsKeepShape, FetchTakesExactly, StepsRearrange, StepsKeepPlaced, StepsLeaveTheRest};
 ghost use Rattle.steps.specs.Order.{OrderKept};

@@ -1,4 +1,6 @@
 // Bucket stores: the faults of a store, what a store means, a store on a table of words, and a store on a journal.
+#![tactic(auto)]
+
 pub mod copy;
 pub mod fault;
 pub mod interface;

@@ -1,4 +1,6 @@
 // Tests of the two stores: at the edges, and side by side.
+#![tactic(auto)]
+
 #[cfg(test)]
 mod calls;
 #[cfg(test)]
