@@ -12,7 +12,7 @@ unwrap-twice-requires g c =
     let s0 = c.args.store.now in
     let s1 = c.dequeue.new.store in
     let p = second_passed D (length (g.S.BucketStore.buckets s0)) c.args.arrives c.args.first c.args.second
-    (g.S.BucketStore.span s0) (length (g.S.BucketStore.log s0)) (length (queued c.args.queue)) c.in-default.ensures in
+    (g.S.BucketStore.span s0) (length (g.S.BucketStore.log s0)) (length (queued c.args.queue)) c.in_default.ensures in
     let ok : is_ok c.dequeue.result ≡ true = ap is_ok c.unwrap-once.ensures in
     let long = dequeue_long D c.args.first.0 _ _ (rw ok at c.dequeue.ensures.log) in
     let same = c.dequeue.ensures.span in
@@ -40,7 +40,7 @@ returns g c =
     let twice-is : twice ≡ dequeued D b once =
     IfOk-at_ok (λ q. decoded_row (g.S.BucketStore.buckets s2) q ≡ dequeued D b once) c.unwrap-twice.ensures c.dequeue-2.ensures.row in
     record {
-      answer = c.in-default.ensures;
+      answer = c.in_default.ensures;
       row = twice-is ∙ ap (dequeued D b) (once_is ∙ ap (dequeued D a) c.joined-longer.ensures);
       log = both_entries D a b (g.S.BucketStore.log s0) (rw ok at c.dequeue.ensures.log) (rw ok2 at c.dequeue-2.ensures.log);
       span = c.dequeue-2.ensures.span ∙ c.dequeue.ensures.span;

@@ -10,7 +10,7 @@ returns g c =
     let ok : is_ok c.read.result ≡ true = ap is_ok c.unwrap.ensures in
     record {
       places =
-          read_places bs c.args.n.0 c.requires.some.0 c.requires.some.1 (rw ok at read.place) c.from-words.ensures.value;
+          read_places bs c.args.n.0 c.requires.some.0 c.requires.some.1 (rw ok at read.place) c.from_words.ensures.value;
       holds = read.holds;
       enters = rw ok at read.enters;
       spans = read.spans;

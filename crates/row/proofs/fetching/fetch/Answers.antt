@@ -5,8 +5,8 @@ use Rattle.row.proofs.fetching.fetch.Goals as goal
 
 pub returns : goal.returns
 returns g c =
-    let path = c.fetch-path-block.ensures in
-    let queue = c.take-out-waiting.ensures in
+    let path = c.fetch_path-block.ensures in
+    let queue = c.take_out-waiting.ensures in
     record {
       answer = search rules;
       row = same_row path.holds queue.rest;

@@ -7,8 +7,8 @@ use Rattle.row.proofs.FetchLaws.{fetch_more}
 use Rattle.row.proofs.RowLaws.{path_there}
 use Rattle.row.proofs.fetching.fetch_path.Goals as goal
 
-pub fetch-bucket-block-requires : goal.fetch-bucket-block-requires
-fetch-bucket-block-requires g c =
+pub fetch_bucket-block-requires : goal.fetch_bucket-block-requires
+fetch_bucket-block-requires g c =
     let D = c.args.depth in
     let m = c.args.leaf.0 in
     let k = c.loop-layer.layer in
@@ -16,14 +16,14 @@ fetch-bucket-block-requires g c =
     let low = path_positive D m k in
     let high = path_there D m k _ c.requires.leaf in_tree c.requires.fits in
     let used = ap length c.loop-layer.invariant.0.enters ∙ length-append _ (fetch_to D m k) in
-    let long = fetch-to D m k in
+    let long = fetch_to D m k in
     record { some = (omega arith, omega arith); free = omega arith }
 
 pub loop-layer-preserved : goal.loop-layer-preserved
 loop-layer-preserved g c =
-    let bucket = c.fetch-bucket-block.ensures in
+    let bucket = c.fetch_bucket-block.ensures in
     let more = fetch_more c.args.depth c.args.number.0 c.args.leaf.0 c.loop-layer.layer _ _ _ _ _ _ _ _ _
-    (omega arith) c.path-bucket-n.ensures c.loop-layer.invariant.0 bucket.answer bucket.holds bucket.enters in (
+    (omega arith) c.path_bucket-n.ensures c.loop-layer.invariant.0 bucket.answer bucket.holds bucket.enters in (
       rw c.or-found.ensures more,
       bucket.count ∙ c.loop-layer.invariant.1,
       bucket.spans ∙ c.loop-layer.invariant.2,

@@ -6,23 +6,23 @@ use Rattle.row.proofs.FlushLaws.{dequeue_enters}
 use Rattle.row.proofs.RowLaws.{passed, root_there, same_row}
 use Rattle.row.proofs.flushing.dequeue.Goals as goal
 
-pub put-back-root-left-requires : goal.put-back-root-left-requires
-put-back-root-left-requires g c =
+pub put_back_root-left-requires : goal.put_back_root-left-requires
+put_back_root-left-requires g c =
     let D = c.args.depth in
     let s = c.args.store.now in
     let count = length (g.S.BucketStore.buckets s) in
     let used = length (g.S.BucketStore.log s) in
-    let p = passed D count (Some c.args.leaf) (2 * c.from.result + 4) (g.S.BucketStore.span s) used None c.in-default.ensures in
+    let p = passed D count (Some c.args.leaf) (2 * c.from.result + 4) (g.S.BucketStore.span s) used None c.in_default.ensures in
     record { some = root_there D count p.fits; free = omega arith }
 
-pub flush-path-requires : goal.flush-path-requires
-flush-path-requires g c =
+pub flush_path-requires : goal.flush_path-requires
+flush_path-requires g c =
     let D = c.args.depth in
     let s = c.args.store.now in
     let count = length (g.S.BucketStore.buckets s) in
     let used = length (g.S.BucketStore.log s) in
-    let p = passed D count (Some c.args.leaf) (2 * c.from.result + 4) (g.S.BucketStore.span s) used None c.in-default.ensures in
-    let back = c.put-back-root-left.ensures in
+    let p = passed D count (Some c.args.leaf) (2 * c.from.result + 4) (g.S.BucketStore.span s) used None c.in_default.ensures in
+    let back = c.put_back_root-left.ensures in
     let long = ap length back.enters ∙ length-append _ put_back_entries in
     record { leaf = p.in_tree; fits = omega arith; free = omega arith }
 
@@ -30,8 +30,8 @@ pub returns : goal.returns
 returns g c =
     let D = c.args.depth in
     let m = c.args.leaf.0 in
-    let back = c.put-back-root-left.ensures in
-    let sink = c.flush-path.ensures in
+    let back = c.put_back_root-left.ensures in
+    let sink = c.flush_path.ensures in
     record {
       answer = search rules;
       row = same_row sink.holds refl ∙ ap (flushed D m) back.row;

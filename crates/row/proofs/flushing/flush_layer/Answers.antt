@@ -5,8 +5,8 @@ use Rattle.row.proofs.FlushLaws.{flush_one}
 use Rattle.row.proofs.RowLaws.{path_there, room_after, two_entries}
 use Rattle.row.proofs.flushing.flush_layer.Goals as goal
 
-pub read-bucket-child-requires : goal.read-bucket-child-requires
-read-bucket-child-requires g c =
+pub read_bucket-child-requires : goal.read_bucket-child-requires
+read_bucket-child-requires g c =
     let D = c.args.depth in
     let m = c.args.leaf.0 in
     let next = c.args.layer + 1 in
@@ -15,12 +15,12 @@ read-bucket-child-requires g c =
     let high = path_there D m next _ c.requires.leaf in_tree c.requires.fits in
     record { some = (omega arith, omega arith); free = omega arith }
 
-pub write-bucket-requires : goal.write-bucket-requires
-write-bucket-requires g c =
+pub write_bucket-requires : goal.write_bucket-requires
+write_bucket-requires g c =
     let D = c.args.depth in
     let m = c.args.leaf.0 in
     let layer = c.args.layer in
-    let read = c.read-bucket-child.ensures in
+    let read = c.read_bucket-child.ensures in
     let in_tree : layer ≤ D = omega arith in
     let low = path_positive D m layer in
     let high = path_there D m layer _ c.requires.leaf in_tree c.requires.fits in
@@ -31,11 +31,11 @@ pub returns : goal.returns
 returns g c =
     let D = c.args.depth in
     let m = c.args.leaf.0 in
-    let lower = c.path-bucket.ensures in
-    let upper = c.path-bucket-2.ensures in
-    let read = c.read-bucket-child.ensures in
-    let move = c.move-down.ensures in
-    let write = c.write-bucket.ensures in
+    let lower = c.path_bucket.ensures in
+    let upper = c.path_bucket-2.ensures in
+    let read = c.read_bucket-child.ensures in
+    let move = c.move_down.ensures in
+    let write = c.write_bucket.ensures in
     let one = flush_one D m (c.args.layer + 1) c.args.parent.places lower upper (ap decoded read.holds) read.places
     move.parent move.child write.holds in
     record {

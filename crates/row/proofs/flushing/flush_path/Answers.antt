@@ -8,8 +8,8 @@ use Rattle.row.proofs.FlushLaws.{flush-all, flush_more, flush-none, flush_used}
 use Rattle.row.proofs.RowLaws.{path_there}
 use Rattle.row.proofs.flushing.flush_path.Goals as goal
 
-pub read-bucket-hand-requires : goal.read-bucket-hand-requires
-read-bucket-hand-requires g c =
+pub read_bucket-hand-requires : goal.read_bucket-hand-requires
+read_bucket-hand-requires g c =
     let D = c.args.depth in
     let m = c.args.leaf.0 in
     let low = path_positive D m 0 in
@@ -19,14 +19,14 @@ read-bucket-hand-requires g c =
 pub loop-layer-init : goal.loop-layer-init
 loop-layer-init g c = (λ b k p. p, refl, refl)
 
-pub flush-layer-hand-requires : goal.flush-layer-hand-requires
-flush-layer-hand-requires g c =
+pub flush_layer-hand-requires : goal.flush_layer-hand-requires
+flush_layer-hand-requires g c =
     let D = c.args.depth in
     let m = c.args.leaf.0 in
     let b = decoded (g.S.BucketStore.buckets c.args.store.now) in
     let l = g.S.BucketStore.log c.args.store.now in
-    let read = c.read-bucket-hand.ensures in
-    let start = flush-none D m _ b l c.path-bucket.ensures (ap decoded read.holds) read.places read.enters in
+    let read = c.read_bucket-hand.ensures in
+    let start = flush-none D m _ b l c.path_bucket.ensures (ap decoded read.holds) read.places read.enters in
     let used = flush_used D m c.loop-layer.layer b _ l _ _ (c.loop-layer.invariant.0 b l start) in
     let count = ap length read.holds in
     record { leaf = c.requires.leaf; layer = c.loop-layer-test.true; fits = omega arith; free = omega arith }
@@ -36,9 +36,9 @@ loop-layer-preserved g c =
     let D = c.args.depth in
     let m = c.args.leaf.0 in
     let layer = c.loop-layer.layer in
-    let next = c.flush-layer-hand.ensures in
+    let next = c.flush_layer-hand.ensures in
     let bs = g.S.BucketStore.buckets c.loop-layer.store in
-    let count = ap length c.read-bucket-hand.ensures.holds in
+    let count = ap length c.read_bucket-hand.ensures.holds in
     let long = length-map bs places_of in
     let there : path D m layer ≤ length (decoded bs) =
     omega (arith, path_there D m layer _ c.requires.leaf c.loop-layer.auto.layer-end c.requires.fits) in (
@@ -49,14 +49,14 @@ loop-layer-preserved g c =
       next.spans ∙ c.loop-layer.invariant.2,
     )
 
-pub write-bucket-requires : goal.write-bucket-requires
-write-bucket-requires g c =
+pub write_bucket-requires : goal.write_bucket-requires
+write_bucket-requires g c =
     let D = c.args.depth in
     let m = c.args.leaf.0 in
     let b = decoded (g.S.BucketStore.buckets c.args.store.now) in
     let l = g.S.BucketStore.log c.args.store.now in
-    let read = c.read-bucket-hand.ensures in
-    let start = flush-none D m _ b l c.path-bucket.ensures (ap decoded read.holds) read.places read.enters in
+    let read = c.read_bucket-hand.ensures in
+    let start = flush-none D m _ b l c.path_bucket.ensures (ap decoded read.holds) read.places read.enters in
     let used = flush_used D m c.loop-layer.layer b _ l _ _ (c.loop-layer.invariant.0 b l start) in
     let count = ap length read.holds in
     let low = path_positive D m D in
@@ -69,12 +69,12 @@ returns g c =
     let m = c.args.leaf.0 in
     let b = decoded (g.S.BucketStore.buckets c.args.store.now) in
     let l = g.S.BucketStore.log c.args.store.now in
-    let read = c.read-bucket-hand.ensures in
-    let write = c.write-bucket.ensures in
-    let start = flush-none D m _ b l c.path-bucket.ensures (ap decoded read.holds) read.places read.enters in
+    let read = c.read_bucket-hand.ensures in
+    let write = c.write_bucket.ensures in
+    let start = flush-none D m _ b l c.path_bucket.ensures (ap decoded read.holds) read.places read.enters in
     let end : c.loop-layer.layer ≡ D = omega arith in
     let so = rw end at (c.loop-layer.invariant.0 b l start) in
-    let all = flush-all D m _ b _ _ l _ _ _ c.path-bucket-2.ensures so write.holds write.enters in
+    let all = flush-all D m _ b _ _ l _ _ _ c.path_bucket-2.ensures so write.holds write.enters in
     record {
       holds = all.0;
       count = write.count ∙ (c.loop-layer.invariant.1 ∙ ap length read.holds);

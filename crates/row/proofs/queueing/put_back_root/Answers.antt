@@ -8,24 +8,24 @@ use Rattle.row.proofs.PutBackLaws.{put_in_row}
 use Rattle.row.proofs.RowLaws.{room_after, same_row, two_entries}
 use Rattle.row.proofs.queueing.put_back_root.Goals as goal
 
-pub write-bucket-requires : goal.write-bucket-requires
-write-bucket-requires g c =
-    let read = c.read-bucket-root.ensures in
+pub write_bucket-requires : goal.write_bucket-requires
+write_bucket-requires g c =
+    let read = c.read_bucket-root.ensures in
     let b = ap length read.holds in
     record { some = (omega arith, omega arith); free = room_after _ 1 read.enters read.spans c.requires.free }
 
 pub returns : goal.returns
 returns g c =
-    let read = c.read-bucket-root.ensures in
-    let write = c.write-bucket.ensures in
+    let read = c.read_bucket-root.ensures in
+    let write = c.write_bucket.ensures in
     let bs = decoded (g.S.BucketStore.buckets c.args.store.now) in
     let q = queued c.args.queue in
-    let root = c.put-first-left.new.root.places in
+    let root = c.put_first-left.new.root.places in
     let long = length-map (g.S.BucketStore.buckets c.args.store.now) places_of in
     record {
       row =
           same_row (write.holds ∙ ap (λ x. with_bucket (decoded x) 1 root) read.holds) refl
-          ∙ put_in_row bs root q _ (omega arith) (c.put-first-left.ensures ∙ ap (λ ps. put_back_from (ps ∷ []) q) read.places);
+          ∙ put_in_row bs root q _ (omega arith) (c.put_first-left.ensures ∙ ap (λ ps. put_back_from (ps ∷ []) q) read.places);
       count = write.count ∙ ap length read.holds;
       enters = two_entries _ 1 1 read.enters write.enters;
       spans = write.spans ∙ read.spans;

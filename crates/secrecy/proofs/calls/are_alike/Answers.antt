@@ -13,8 +13,8 @@ returns-then-first-second g c =
       no = λ _ h. c.if-first-second.true (like_long c.args.first.now c.args.second.now h);
     }
 
-pub returns-then-not-same-sort : goal.returns-then-not-same-sort
-returns-then-not-same-sort g c =
+pub returns-then-not-same_sort : goal.returns-then-not-same_sort
+returns-then-not-same_sort g c =
     let xs = c.args.first.now in
     let ys = c.args.second.now in
     let i = c.loop-i.i in
@@ -22,7 +22,7 @@ returns-then-not-same-sort g c =
     record {
       yes = λ e. absurd (false≢true e);
       no = λ _ h.
-          c.if-not-same-sort.ensures.no refl
+          c.if-not-same_sort.ensures.no refl
           (ap (λ x. sort (call_in x)) c.index-first-i.is
           ∙ (like_at xs ys h i l c.index-first-i.result c.index-second-i.result ∙ ap (λ x. sort (call_in x)) (sym c.index-second-i.is)));
     }
@@ -38,7 +38,7 @@ loop-i-preserved g c =
     below_more _ _ c.loop-i.invariant
     (λ d.
     ap (λ x. sort (call_in x)) (get_or_default xs i d c.index-first-i.result l ∙ sym c.index-first-i.is)
-    ∙ (c.if-not-same-sort.ensures.yes refl
+    ∙ (c.if-not-same_sort.ensures.yes refl
     ∙ ap (λ x. sort (call_in x)) (c.index-second-i.is ∙ get_or_default ys i c.index-second-i.result d m)))
 
 pub returns : goal.returns

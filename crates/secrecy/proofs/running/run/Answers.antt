@@ -27,14 +27,14 @@ seen-requires g c =
     let same = same_long (rows_of g.S.BucketStore g.P.PositionMap c.loop-i.oram) (rows_of g.S.BucketStore g.P.PositionMap c.step.new.oram) c.step.ensures.frame.rows.rows_stay in
     omega arith
 
-pub returns-in-err-push : goal.returns-in-err-push
-returns-in-err-push g c = IfOk-from_err c.from-residual.result _ c.from-residual.ensures.0
+pub returns-in_err-push : goal.returns-in_err-push
+returns-in_err-push g c = IfOk-from_err c.from_residual.result _ c.from_residual.ensures.0
 
-pub returns-in-err-seen : goal.returns-in-err-seen
-returns-in-err-seen g c = IfOk-from_err c.from-residual-in-err-seen.result _ c.from-residual-in-err-seen.ensures.0
+pub returns-in_err-seen : goal.returns-in_err-seen
+returns-in_err-seen g c = IfOk-from_err c.from_residual-in_err-seen.result _ c.from_residual-in_err-seen.ensures.0
 
-pub returns-in-err-push-2 : goal.returns-in-err-push-2
-returns-in-err-push-2 g c = IfOk-from_err c.from-residual-in-err-push-2.result _ c.from-residual-in-err-push-2.ensures.0
+pub returns-in_err-push-2 : goal.returns-in_err-push-2
+returns-in_err-push-2 g c = IfOk-from_err c.from_residual-in_err-push-2.result _ c.from_residual-in_err-push-2.ensures.0
 
 pub loop-i-preserved : goal.loop-i-preserved
 loop-i-preserved g c =
@@ -50,7 +50,7 @@ loop-i-preserved g c =
     let xs = vec_items c.loop-i.answers in
     let x = c.step.result in
     let shots = vec_items c.loop-i.shots in
-    let shot = vec_items c.in-ok-seen.field-0 in
+    let shot = vec_items c.in_ok-seen.field-0 in
     let lc : i < length calls = omega arith in
     let ec = c.requires.coins in
     let ld : i < length coins = omega arith in
@@ -59,24 +59,24 @@ loop-i-preserved g c =
     let nx = length-map xs (found card) in
     let long = c.loop-i.invariant.0 in
     let few = c.loop-i.invariant.1 in
-    let pushed = c.in-ok-push.ensures.items in
-    let shown = c.in-ok-push-2.ensures.items in
+    let pushed = c.in_ok-push.ensures.items in
+    let shown = c.in_ok-push-2.ensures.items in
     let same = same_long (rows_of s m o) (rows_of s m o') c.step.ensures.frame.rows.rows_stay in
     let call-is : get_or (calls_in calls) i (call_in c.index-calls-i.result) ≡ call_in c.index-calls-i.result =
     get_or-map call_in calls i c.index-calls-i.result (call_in c.index-calls-i.result) lc ∙ ap call_in (sym c.index-calls-i.is) in
-    let coins-are : get_or (coins_in coins) i [] ≡ leaf_numbers c.as-slice.result.now =
+    let coins-are : get_or (coins_in coins) i [] ≡ leaf_numbers c.as_slice.result.now =
     get_or-map (λ v. leaf_numbers (vec_items v)) coins i c.index-coins-i.result [] ld
-    ∙ (ap (λ v. leaf_numbers (vec_items v)) (sym c.index-coins-i.is) ∙ ap leaf_numbers (sym c.as-slice.ensures.value)) in
+    ∙ (ap (λ v. leaf_numbers (vec_items v)) (sym c.index-coins-i.is) ∙ ap leaf_numbers (sym c.as_slice.ensures.value)) in
     let does : Does k s m (get_or (coins_in coins) i []) o o' (get_or (calls_in calls) i (call_in c.index-calls-i.result)) (found card x) =
     subst (λ d. Does k s m d o o' (get_or (calls_in calls) i (call_in c.index-calls-i.result)) (found card x)) (sym coins-are)
-    (subst (λ a. Does k s m (leaf_numbers c.as-slice.result.now) o o' a (found card x)) (sym call-is) c.step.ensures) in
+    (subst (λ a. Does k s m (leaf_numbers c.as_slice.result.now) o o' a (found card x)) (sym call-is) c.step.ensures) in
     let ran = ran_more k s m (calls_in calls) (coins_in coins) o o' (outcomes_in card xs) (found card x) (map vec_items shots) shot i
-    (call_in c.index-calls-i.result) [] (omega arith) (omega arith) (omega arith) c.loop-i.invariant.2 does c.in-ok-seen.ensures in (
+    (call_in c.index-calls-i.result) [] (omega arith) (omega arith) (omega arith) c.loop-i.invariant.2 does c.in_ok-seen.ensures in (
       ap length pushed ∙ (length_push xs x ∙ ap (λ n. n + 1) long),
       omega arith,
       subst (λ a. RanTo k s m (calls_in calls) (coins_in coins) a (map vec_items (vec_items c.push-in-loop-i.new.self)) o') (sym (ap (outcomes_in card) pushed ∙ map_push (found card) xs x))
           (subst (λ b. RanTo k s m (calls_in calls) (coins_in coins) (outcomes_in card xs ++ found card x ∷ []) b o')
-          (sym (ap (map vec_items) shown ∙ map_push vec_items shots c.in-ok-seen.field-0)) ran),
+          (sym (ap (map vec_items) shown ∙ map_push vec_items shots c.in_ok-seen.field-0)) ran),
     )
 
 pub returns : goal.returns

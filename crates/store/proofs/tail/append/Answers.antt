@@ -3,5 +3,5 @@ use Rattle.store.proofs.tail.append.Goals as goal
 
 pub returns : goal.returns
 returns c =
-    entry_laid c.args.tail.now c.args.at c.args.kind c.args.n.0 c.args.words.now c.copy-in.new.words
-    c.requires c.copy-in.ensures
+    entry_laid c.args.tail.now c.args.at c.args.kind c.args.n.0 c.args.words.now c.copy_in.new.words
+    c.requires c.copy_in.ensures

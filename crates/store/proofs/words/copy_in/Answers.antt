@@ -2,4 +2,4 @@ use Rattle.store.proofs.Pieces.{put_mid_overwritten}
 use Rattle.store.proofs.words.copy_in.Goals as goal
 
 pub returns : goal.returns
-returns c = put_mid_overwritten c.args.at c.args.words.now c.args.from.now c.copy-from-slice.new.self c.copy-from-slice.ensures.after
+returns c = put_mid_overwritten c.args.at c.args.words.now c.args.from.now c.copy_from_slice.new.self c.copy_from_slice.ensures.after

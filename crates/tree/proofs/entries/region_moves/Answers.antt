@@ -9,8 +9,8 @@ loop-depth-preserved c =
     let d = get_or c.args.depths.now c.loop-depth.depth-index 0 in
     let t = total_more (moves_of c.args.work) c.args.depths.now c.loop-depth.depth-index c.loop-depth-test.true in
     let a = depths_more c.args.depths.now c.loop-depth.depth-index c.loop-depth-test.true in
-    let g = given-some (is_depth d) c.in-ok-more.more (moves_of c.args.work d) c.in-ok-more.ensures.value in
-    let s = c.in-ok-sum.ensures in
+    let g = given-some (is_depth d) c.in_ok-more.more (moves_of c.args.work d) c.in_ok-more.ensures.value in
+    let s = c.in_ok-sum.ensures in
     let r = all_depths (drop (c.loop-depth.depth-index + 1) c.args.depths.now) in
     (omega (arith, c.loop-depth.invariant.0), sym (a ∙ ap (λ b. b && r) g.0) ∙ c.loop-depth.invariant.1)
 
@@ -20,18 +20,18 @@ returns c =
     let a = depths_end c.args.depths.now c.loop-depth.depth-index c.loop-depth-test.false in
     (sym c.loop-depth.invariant.1 ∙ a, omega (arith, c.loop-depth.invariant.0))
 
-pub returns-in-err-more : goal.returns-in-err-more
-returns-in-err-more c =
+pub returns-in_err-more : goal.returns-in_err-more
+returns-in_err-more c =
     let d = get_or c.args.depths.now c.loop-depth.depth-index 0 in
     let a = depths_more c.args.depths.now c.loop-depth.depth-index c.loop-depth-test.true in
-    let g = given-none (is_depth d) (moves_of c.args.work d) c.in-err-more.ensures.value in
+    let g = given-none (is_depth d) (moves_of c.args.work d) c.in_err-more.ensures.value in
     let r = all_depths (drop (c.loop-depth.depth-index + 1) c.args.depths.now) in
-    rw c.from-residual.ensures (λ all fits. and_not (is_depth d) r g (sym a ∙ (c.loop-depth.invariant.1 ∙ all)))
+    rw c.from_residual.ensures (λ all fits. and_not (is_depth d) r g (sym a ∙ (c.loop-depth.invariant.1 ∙ all)))
 
-pub returns-in-err-sum : goal.returns-in-err-sum
-returns-in-err-sum c =
+pub returns-in_err-sum : goal.returns-in_err-sum
+returns-in_err-sum c =
     let d = get_or c.args.depths.now c.loop-depth.depth-index 0 in
     let t = total_more (moves_of c.args.work) c.args.depths.now c.loop-depth.depth-index c.loop-depth-test.true in
-    let g = given-some (is_depth d) c.in-ok-more.more (moves_of c.args.work d) c.in-ok-more.ensures.value in
-    rw c.from-residual-in-err-sum.ensures
-    (λ all fits. c.in-err-sum.ensures (omega (arith, c.loop-depth.invariant.0)))
+    let g = given-some (is_depth d) c.in_ok-more.more (moves_of c.args.work d) c.in_ok-more.ensures.value in
+    rw c.from_residual-in_err-sum.ensures
+    (λ all fits. c.in_err-sum.ensures (omega (arith, c.loop-depth.invariant.0)))

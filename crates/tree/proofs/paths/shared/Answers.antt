@@ -14,8 +14,8 @@ counted D m n d h l =
     let s = one_shl D 32 (omega arith) in
     agree_zeros D 32 m n (omega (arith, s)) (omega (arith, s)) (omega arith)
 
-pub overflow-sub-result : goal.overflow-sub-result
-overflow-sub-result c =
+pub overflow_sub-result : goal.overflow_sub-result
+overflow_sub-result c =
     omega (arith, (counted _ _ _ c.if-depth-gt-DEEPEST.false c.if-one-leaves.false c.if-other-leaves.false).0)
 
 pub returns : goal.returns

@@ -12,5 +12,5 @@ returns-then-k-depth c = λ f. let long = flush_long c.args.depth c.args.leaf.0 
 
 pub returns : goal.returns
 returns c =
-    flush_entry c.args.depth c.args.leaf c.args.k c.flush-layer.result c.bucket-at.result
-    c.bucket-at.ensures c.flush-layer.ensures (omega arith)
+    flush_entry c.args.depth c.args.leaf c.args.k c.flush_layer.result c.bucket_at.result
+    c.bucket_at.ensures c.flush_layer.ensures (omega arith)

@@ -4,18 +4,18 @@ use Rattle.level.proofs.CoinTests.{length_numbers}
 use Rattle.level.proofs.OwnTests.{fits}
 use Rattle.level.proofs.level.Level.own_drain.Goals as goal
 
-pub has-shares-requires : goal.has-shares-requires
-has-shares-requires g c =
+pub has_shares-requires : goal.has_shares-requires
+has_shares-requires g c =
     let s = c.args.self.now in
     let f = fits s.depth (length (g.S.BucketStore.buckets s.store)) (length (g.P.PositionMap.leaves s.below))
-    (length (g.P.PositionMap.rows s.below)) c.if-not-own-fit.ensures in
+    (length (g.P.PositionMap.rows s.below)) c.if-not-own_fit.ensures in
     search rules
 
-pub drain-coin-fits-requires : goal.drain-coin-fits-requires
-drain-coin-fits-requires g c =
+pub drain_coin_fits-requires : goal.drain_coin_fits-requires
+drain_coin_fits-requires g c =
     let s = c.args.self.now in
     let f = fits s.depth (length (g.S.BucketStore.buckets s.store)) (length (g.P.PositionMap.leaves s.below))
-    (length (g.P.PositionMap.rows s.below)) c.if-not-own-fit.ensures in
-    let e = eqb-true _ _ (sym c.if-not-has-shares.ensures) in
+    (length (g.P.PositionMap.rows s.below)) c.if-not-own_fit.ensures in
+    let e = eqb-true _ _ (sym c.if-not-has_shares.ensures) in
     let n = length_numbers c.args.coins.now in
     record { depth = f.depth; enough = omega arith }

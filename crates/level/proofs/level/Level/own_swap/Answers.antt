@@ -4,18 +4,18 @@ use Rattle.level.proofs.CoinTests.{length_numbers}
 use Rattle.level.proofs.OwnTests.{fits}
 use Rattle.level.proofs.level.Level.own_swap.Goals as goal
 
-pub has-shares-requires : goal.has-shares-requires
-has-shares-requires g c =
+pub has_shares-requires : goal.has_shares-requires
+has_shares-requires g c =
     let s = c.args.self.now in
     let f = fits s.depth (length (g.S.BucketStore.buckets s.store)) (length (g.P.PositionMap.leaves s.below))
-    (length (g.P.PositionMap.rows s.below)) c.if-not-own-fit.ensures in
+    (length (g.P.PositionMap.rows s.below)) c.if-not-own_fit.ensures in
     search rules
 
-pub request-leaves-fit-requires : goal.request-leaves-fit-requires
-request-leaves-fit-requires g c =
+pub request_leaves_fit-requires : goal.request_leaves_fit-requires
+request_leaves_fit-requires g c =
     let s = c.args.self.now in
     let f = fits s.depth (length (g.S.BucketStore.buckets s.store)) (length (g.P.PositionMap.leaves s.below))
-    (length (g.P.PositionMap.rows s.below)) c.if-not-own-fit.ensures in
-    let e = eqb-true _ _ (sym c.if-not-has-shares.ensures) in
+    (length (g.P.PositionMap.rows s.below)) c.if-not-own_fit.ensures in
+    let e = eqb-true _ _ (sym c.if-not-has_shares.ensures) in
     let n = length_numbers c.args.coins.now in
     record { depth = f.depth; enough = omega arith }

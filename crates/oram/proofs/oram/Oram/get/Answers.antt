@@ -8,8 +8,8 @@ use Rattle.oram.proofs.Endings.{get_done, refused_at_once, request-refused, time
 use Rattle.oram.proofs.Laws.{lawful}
 use Rattle.oram.proofs.oram.Oram.get.Goals as goal
 
-pub returns-in-err-in-time : goal.returns-in-err-in-time
-returns-in-err-in-time g c =
+pub returns-in_err-in_time : goal.returns-in_err-in_time
+returns-in_err-in_time g c =
     let o = c.args.self.now in
     let k = g.K.RecordKind in
     let s = g.S.BucketStore in
@@ -17,14 +17,14 @@ returns-in-err-in-time g c =
     let n = c.args.number.0 in
     let cs = leaf_numbers c.args.coins.now in
     let call = getting n in
-    let p = err_from_is_err_and c.from-residual.result c.from-residual.ensures.1 in
+    let p = err_from_is_err_and c.from_residual.result c.from_residual.ensures.1 in
     let time = ask_time (records_of m o) o.opened n in
-    let d : Does k s m cs o o call (found g.Fault.CardFault c.from-residual.result) =
-    rw (p.1, p.2) (refused_at_once k s m cs o call _ (time_refuses k s m cs o (naming 1 (unfit_of s m o)) time (request_refusal s m o n cs) _ c.in-err-in-time.ensures)) in
+    let d : Does k s m cs o o call (found g.Fault.CardFault c.from_residual.result) =
+    rw (p.1, p.2) (refused_at_once k s m cs o call _ (time_refuses k s m cs o (naming 1 (unfit_of s m o)) time (request_refusal s m o n cs) _ c.in_err-in_time.ensures)) in
     record { does = d; law = lawful k s m g.met.K.RecordKind.again cs o o call _ d }
 
-pub returns-in-err-words : goal.returns-in-err-words
-returns-in-err-words g c =
+pub returns-in_err-words : goal.returns-in_err-words
+returns-in_err-words g c =
     let o = c.args.self.now in
     let k = g.K.RecordKind in
     let s = g.S.BucketStore in
@@ -33,9 +33,9 @@ returns-in-err-words g c =
     let cs = leaf_numbers c.args.coins.now in
     let call = getting n in
     let o' = c.request.new.self in
-    let p = err_from_is_err_and c.from-residual-in-err-words.result c.from-residual-in-err-words.ensures.1 in
-    let d : Does k s m cs o o' call (found g.Fault.CardFault c.from-residual-in-err-words.result) =
-    rw (p.1, p.2) (request-refused k s m cs o g.Fault.CardFault o' n None (ask_time (records_of m o) o.opened n) c.in-ok-in-time.ensures call refl _ c.in-err-words.ensures) in
+    let p = err_from_is_err_and c.from_residual-in_err-words.result c.from_residual-in_err-words.ensures.1 in
+    let d : Does k s m cs o o' call (found g.Fault.CardFault c.from_residual-in_err-words.result) =
+    rw (p.1, p.2) (request-refused k s m cs o g.Fault.CardFault o' n None (ask_time (records_of m o) o.opened n) c.in_ok-in_time.ensures call refl _ c.in_err-words.ensures) in
     record { does = d; law = lawful k s m g.met.K.RecordKind.again cs o o' call _ d }
 
 pub returns : goal.returns
@@ -48,6 +48,6 @@ returns g c =
     let cs = leaf_numbers c.args.coins.now in
     let call = getting n in
     let o' = c.request.new.self in
-    let d = get_done k s m cs o g.Fault.CardFault o' n c.in-ok-in-time.ensures c.in-ok-words.words c.record-in.result
-    c.record-in.ensures c.in-ok-words.ensures in
+    let d = get_done k s m cs o g.Fault.CardFault o' n c.in_ok-in_time.ensures c.in_ok-words.words c.record_in.result
+    c.record_in.ensures c.in_ok-words.ensures in
     record { does = d; law = lawful k s m g.met.K.RecordKind.again cs o o' call _ d }

@@ -19,10 +19,10 @@ returns g c =
     let s = g.S.BucketStore in
     let m = g.P.PositionMap in
     let b = o.below in
-    let b' = c.tear-off-2.new.self in
-    let t = c.tear-off.new.self in
-    let es = c.tear-off.ensures in
-    let ep = c.tear-off-2.ensures in
+    let b' = c.tear_off-2.new.self in
+    let t = c.tear_off.new.self in
+    let es = c.tear_off.ensures in
+    let ep = c.tear_off-2.ensures in
     let o' : Oram g.row.K.Denot g.row.S.Denot g.row.P.Denot = record { store = t; below = b'; queue = o.queue; depth = D; opened = o.opened; kind = o.kind } in
     let rows = torn_rows D (m.leaves b) (m.leaves b') (m.rows b) (m.rows b') (s.span o.store) (s.span t) (s.log o.store) (s.log t) ep.leaves ep.rows es.spans es.empties in
     let d : (coins : List ℕ) → Does k s m coins o o' tearing (did None) = λ coins.

@@ -19,7 +19,7 @@ unwrap-left-requires g c =
     let s0 = c.args.store.now in
     let s1 = c.fetch.new.store in
     let ok : is_ok c.fetch.result ≡ true = ap is_ok c.unwrap-got.ensures in
-    let long = fetch_long D c.in-range-along.result.0 _ _ (rw ok at c.fetch.ensures.log) in
+    let long = fetch_long D c.in_range-along.result.0 _ _ (rw ok at c.fetch.ensures.log) in
     let r = IfOk-at_ok _ c.unwrap-got.ensures c.fetch.ensures.row in
     let short = fewer ask.number.0 (queued c.args.queue) in
     let few = ap (λ row. length row.queue) r in
@@ -48,22 +48,22 @@ returns g c =
     let flushes = ask.first.0 ∷ ask.second.0 ∷ [] in
     let ok : is_ok c.fetch.result ≡ true = ap is_ok c.unwrap-got.ensures in
     let ok2 : is_ok c.second_half_lem.result ≡ true = ap is_ok c.unwrap-left.ensures in
-    let same = c.in-range-along.ensures in
+    let same = c.in_range-along.ensures in
     let got-is : got ≡ fetched D n along before =
-    IfOk-at_ok (λ f. decoded_row (g.S.BucketStore.buckets s1) f.queue ≡ fetched D n c.in-range-along.result.0 before) c.unwrap-got.ensures c.fetch.ensures.row
+    IfOk-at_ok (λ f. decoded_row (g.S.BucketStore.buckets s1) f.queue ≡ fetched D n c.in_range-along.result.0 before) c.unwrap-got.ensures c.fetch.ensures.row
     ∙ ap (λ m. fetched D n m before) same in
     let block-is : c.unwrap-got.result.block ≡ found D n along before =
-    IfOk-at_ok (λ f. f.block ≡ found D n c.in-range-along.result.0 before) c.unwrap-got.ensures c.fetch.ensures.block
+    IfOk-at_ok (λ f. f.block ≡ found D n c.in_range-along.result.0 before) c.unwrap-got.ensures c.fetch.ensures.block
     ∙ ap (λ m. found D n m before) same in
     let left_is = IfOk-at_ok (λ q. decoded_row (g.S.BucketStore.buckets s2) q ≡ second_half D a flushes got) c.unwrap-left.ensures c.second_half_lem.ensures.row in
     record {
       row = record {
-        words-found = c.words-in-words.ensures ∙ ap words_found block-is;
+        words_found = c.words_in-words.ensures ∙ ap words_found block-is;
         arrives = a;
         arrives_as = subst (λ ws. ArrivesAs n ask.new.0 ws a) c.or.ensures c.arrival-arrives.ensures;
         row = left_is ∙ ap (second_half D a flushes) got-is;
         entries =
-            request-entries D c.in-range-along.result.0 ask.first.0 ask.second.0 (g.S.BucketStore.log s0) (rw ok at c.fetch.ensures.log) (rw ok2 at c.second_half_lem.ensures.log)
+            request_entries D c.in_range-along.result.0 ask.first.0 ask.second.0 (g.S.BucketStore.log s0) (rw ok at c.fetch.ensures.log) (rw ok2 at c.second_half_lem.ensures.log)
             ∙ ap (λ m. g.S.BucketStore.log s0 ++ request_entries D m flushes) same;
       };
       span = c.second_half_lem.ensures.span ∙ c.fetch.ensures.span;

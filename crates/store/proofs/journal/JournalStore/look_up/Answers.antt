@@ -7,8 +7,8 @@ use Rattle.store.proofs.Logs.{bucket-within, bucket-words}
 use Rattle.store.proofs.Replays.{replayed-latest}
 use Rattle.store.proofs.journal.JournalStore.look_up.Goals as goal
 
-pub copy-out-requires-in-None : goal.copy-out-requires-in-None
-copy-out-requires-in-None c =
+pub copy_out-requires-in-None : goal.copy_out-requires-in-None
+copy_out-requires-in-None c =
     let s = c.args.self.now in
     let b = base_bucket s.used s.tail.items s.base.items c.args.n.0 c.requires.0 in
     let w = bucket-within s.base.items c.args.n.0 b.1 b.2 in
@@ -21,7 +21,7 @@ returns-in-Some c =
     let old = bucket_of (buckets_in s.base.items) n in
     let b = base_bucket s.used s.tail.items s.base.items n c.requires.0 in
     let at = c.in-Some.ensures.value ∙ ap (λ t. latest_write s.used t n) c.deref.ensures.value in
-    let newest = c.copy-out.ensures
+    let newest = c.copy_out.ensures
     ∙ ap (λ ws. take bucket_words (drop (entry_words * c.in-Some.k + 2) ws)) c.deref-in-Some.ensures.value
     ∙ latest-some s.used s.tail.items n c.in-Some.k old at in
     record { place = newest ∙ sym (replayed-latest s.used s.tail.items (buckets_in s.base.items) n b.0); newest = newest }
@@ -33,7 +33,7 @@ returns-in-None c =
     let old = bucket_of (buckets_in s.base.items) n in
     let b = base_bucket s.used s.tail.items s.base.items n c.requires.0 in
     let none = c.in-None.ensures.value ∙ ap (λ t. latest_write s.used t n) c.deref.ensures.value in
-    let newest = c.copy-out-in-None.ensures
+    let newest = c.copy_out-in-None.ensures
     ∙ ap (λ ws. take bucket_words (drop c.args.start ws)) c.deref-in-None.ensures.value
     ∙ ap (λ a. take bucket_words (drop a s.base.items)) c.requires.1 ∙ bucket-words s.base.items n b.1 b.2
     ∙ latest-none s.used s.tail.items n old none in

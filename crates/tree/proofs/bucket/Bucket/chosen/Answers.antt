@@ -16,9 +16,9 @@ loop-i-preserved c =
     let s = score_at D m d ps i c.score-score.result _ h c.score-score.ensures in
     elim c.if-score-top.branch [
       | then-score-top w ↦
-          best-same ss _ _ _ _ _ w.top-is w.best_is (best_takes ss i _ _ _ s w.if-score-top.true c.loop-i.invariant)
+          best-same ss _ _ _ _ _ w.top-is w.best-is (best_takes ss i _ _ _ s w.if-score-top.true c.loop-i.invariant)
       | else-score-top w ↦
-          best-same ss _ _ _ _ _ w.top-is w.best_is (best_keeps ss i _ _ _ s w.if-score-top.false c.loop-i.invariant)
+          best-same ss _ _ _ _ _ w.top-is w.best-is (best_keeps ss i _ _ _ s w.if-score-top.false c.loop-i.invariant)
     ]
 
 pub returns : goal.returns
@@ -29,7 +29,7 @@ returns c =
     let parent = c.args.self.now.places in
     let child = c.args.child.now.places in
     let n : c.loop-i.i ≡ length parent = omega (arith, c.args.self.now.four) in
-    let room : is_some (lowest_empty child) ≡ true = ap is_some (sym c.lowest-empty.ensures.value) ∙ c.if-is-none.ensures in
+    let room : is_some (lowest_empty child) ≡ true = ap is_some (sym c.lowest_empty.ensures.value) ∙ c.if-is_none.ensures in
     record {
       value = best-chosen D m d parent child _ _ _ n room c.loop-i.invariant;
       moves = best-moves D m d parent child _ _ _ n room c.loop-i.invariant;

@@ -4,11 +4,11 @@ use Rattle.tree.specs.Queues.{queued}
 use Rattle.tree.proofs.QueueLaws.{apart-lacking, left_at}
 use Rattle.tree.proofs.queue.Queue.remove.Goals as goal
 
-pub invariant-of-result : goal.invariant-of-result
-invariant-of-result c =
-    let r = left_at c.args.self c.args.i c.close-up-blocks.result c.requires c.close-up-blocks.ensures in
+pub invariant_of-result : goal.invariant_of-result
+invariant_of-result c =
+    let r = left_at c.args.self c.args.i c.close_up-blocks.result c.requires c.close_up-blocks.ensures in
     let a = apart-lacking c.args.i (queued c.args.self) c.args.self.distinct in
-    (omega arith, (omega arith, (ap apart r ∙ a, tt)))
+    record { long = omega arith; few = omega arith; distinct = ap apart r ∙ a }
 
 pub returns : goal.returns
-returns c = left_at c.args.self c.args.i c.close-up-blocks.result c.requires c.close-up-blocks.ensures
+returns c = left_at c.args.self c.args.i c.close_up-blocks.result c.requires c.close_up-blocks.ensures

@@ -10,5 +10,5 @@ returns g c =
     let n = length (g.P.PositionMap.leaves s.below) in
     let count = length (g.S.BucketStore.buckets s.store) in
     fit_len (own_fit s.depth count n (length (g.P.PositionMap.rows s.below))) (g.P.PositionMap.unfit s.below)
-    (decoded_row (g.S.BucketStore.buckets s.store) s.queue) n c.len.result c.len.ensures c.if-not-own-fit.ensures
-    c.if-is-unfit-below.ensures
+    (decoded_row (g.S.BucketStore.buckets s.store) s.queue) n c.len.result c.len.ensures c.if-not-own_fit.ensures
+    c.if-is_unfit_below.ensures

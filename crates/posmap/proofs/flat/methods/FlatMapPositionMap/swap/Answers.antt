@@ -12,7 +12,7 @@ returns c =
     let s = c.args.self.now in
     let i = c.args.number.0 in
     let new = c.args.leaf.0 in
-    let passed = c.in-ok-trial-swap.ensures in
+    let passed = c.in_ok-trial_swap.ensures in
     let within : i < s.len =
     omega (arith, swaps_within (flat_leaves s) (leaf_numbers c.args.coins.now) i new passed, leaves_long s) in
     let e = take-set-lt s.len s.table i new within in
@@ -21,7 +21,7 @@ returns c =
       frame = record { length-stays = ap length e ∙ length-set (flat_leaves s) i new; rows_stay = refl; unfit_stays = refl };
       order = λ u. u;
       refused = λ f. absurd (both_ways false refl f);
-      done = λ _. record { shown = sym (get_or-take s.len s.table i 0 within); leaf-set = e; rows-asked = refl };
+      done = λ _. record { shown = sym (get_or-take s.len s.table i 0 within); leaf_set = e; rows-asked = refl };
       does = record { table_is = refl; len_stays = refl };
       same = λ f. absurd (both_ways false refl f);
     }

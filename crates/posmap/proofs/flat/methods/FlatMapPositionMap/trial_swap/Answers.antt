@@ -17,8 +17,8 @@ returns-then-coins-ne-COINS c =
     sym (refuses_coins (flat_leaves c.args.self.now) (leaf_numbers c.args.coins.now) c.args.number.0 c.args.leaf.0
     (omega arith) (λ e. c.if-coins-ne-COINS.true (omega arith)))
 
-pub returns-then-leaf-gt-WIDEST-LEAF : goal.returns-then-leaf-gt-WIDEST-LEAF
-returns-then-leaf-gt-WIDEST-LEAF c =
+pub returns-then-leaf-gt-WIDEST_LEAF : goal.returns-then-leaf-gt-WIDEST_LEAF
+returns-then-leaf-gt-WIDEST_LEAF c =
     let n = leaves_long c.args.self.now in
     let k = leaf-count c.args.coins.now in
     sym (refuses_leaf (flat_leaves c.args.self.now) (leaf_numbers c.args.coins.now) c.args.number.0 c.args.leaf.0

@@ -6,5 +6,5 @@ use Rattle.store.proofs.journal.methods.JournalStoreBucketStore.bucket_count.Goa
 pub returns : goal.returns
 returns c =
     let s = c.args.self.now in
-    c.count-buckets.ensures ∙ ap bucket_count (c.len.ensures ∙ s.base.ok.0)
+    c.count_buckets.ensures ∙ ap bucket_count (c.len.ensures ∙ s.base.ok.0)
     ∙ sym (journal_long s.used s.tail.items s.base.items)

@@ -6,4 +6,4 @@ use Rattle.store.proofs.table.methods.TableStoreBucketStore.bucket_count.Goals a
 pub returns : goal.returns
 returns c =
     let v = c.args.self.now.words in
-    c.count-buckets.ensures ∙ ap bucket_count (c.len.ensures ∙ v.ok.0) ∙ sym (buckets_long v.items)
+    c.count_buckets.ensures ∙ ap bucket_count (c.len.ensures ∙ v.ok.0) ∙ sym (buckets_long v.items)

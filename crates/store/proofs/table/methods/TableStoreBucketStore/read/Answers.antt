@@ -8,14 +8,14 @@ use Rattle.store.proofs.Logs.{buckets_long, log_long, bucket-words}
 use Rattle.store.proofs.Transfers.{admitted, refused-answer, done-answer}
 use Rattle.store.proofs.table.methods.TableStoreBucketStore.read.Goals as goal
 
-pub returns-in-err-at : goal.returns-in-err-at
-returns-in-err-at c =
+pub returns-in_err-at : goal.returns-in_err-at
+returns-in_err-at c =
     let s = c.args.self.now in
-    let p = err_from_is_err_and c.from-residual.result c.from-residual.ensures.1 in
-    let count = c.count-buckets.ensures ∙ ap bucket_count (c.len.ensures ∙ s.words.ok.0) in
+    let p = err_from_is_err_and c.from_residual.result c.from_residual.ensures.1 in
+    let count = c.count_buckets.ensures ∙ ap bucket_count (c.len.ensures ∙ s.words.ok.0) in
     rw (p.1, p.2) (record {
-      answer = refused-answer 1 c.span.result s.used c.count-buckets.result (table_span s) (table_log s) (table_buckets s) c.args.n.0 _ _
-          c.span.ensures (log_long s.entries.items s.used s.few) (buckets_long s.words.items ∙ sym count) c.in-err-at.ensures;
+      answer = refused-answer 1 c.span.result s.used c.count_buckets.result (table_span s) (table_log s) (table_buckets s) c.args.n.0 _ _
+          c.span.ensures (log_long s.entries.items s.used s.few) (buckets_long s.words.items ∙ sym count) c.in_err-at.ensures;
       place = refl;
       enters = refl;
       holds = refl;
@@ -28,20 +28,20 @@ returns-in-err-at c =
 pub enter-requires : goal.enter-requires
 enter-requires c =
     let s = c.args.self.now in
-    let a = admitted 1 c.span.result s.used c.count-buckets.result c.args.n.0 _ _ c.in-ok-at.ensures in
+    let a = admitted 1 c.span.result s.used c.count_buckets.result c.args.n.0 _ _ c.in_ok-at.ensures in
     omega (arith, a.free, c.span.ensures)
 
 pub returns : goal.returns
 returns c =
     let s = c.args.self.now in
     let n = c.args.n.0 in
-    let count = c.count-buckets.ensures ∙ ap bucket_count (c.len.ensures ∙ s.words.ok.0) in
-    let a = admitted 1 c.span.result s.used c.count-buckets.result n _ _ c.in-ok-at.ensures in
+    let count = c.count_buckets.ensures ∙ ap bucket_count (c.len.ensures ∙ s.words.ok.0) in
+    let a = admitted 1 c.span.result s.used c.count_buckets.result n _ _ c.in_ok-at.ensures in
     record {
-      answer = done-answer 1 c.span.result s.used c.count-buckets.result (table_span s) (table_log s) (table_buckets s) n
+      answer = done-answer 1 c.span.result s.used c.count_buckets.result (table_span s) (table_log s) (table_buckets s) n
           c.span.ensures (log_long s.entries.items s.used s.few) (buckets_long s.words.items ∙ sym count) a.none;
-      place = c.copy-out.ensures
-          ∙ ap (λ ws. take bucket_words (drop c.in-ok-at.at ws)) c.deref.ensures.value
+      place = c.copy_out.ensures
+          ∙ ap (λ ws. take bucket_words (drop c.in_ok-at.at ws)) c.deref.ensures.value
           ∙ ap (λ at. take bucket_words (drop at s.words.items)) a.same
           ∙ bucket-words s.words.items n a.low (omega (arith, a.high, count));
       enters = c.enter.ensures.enters;
