@@ -24,7 +24,7 @@ pub fn leaves_only_move<R>()
     ensures { LeavesOnlyMove R }
 {}
 
-// Relabelling is one_to_one and onto: on all coins of the same shape, among words, and among those below 2 ^ D of their row.
+// Relabelling is one-to-one and onto: on all coins of the same shape, among words, and among those below 2 ^ D of their row.
 pub fn relabelling_is_one_to_one<R>()
     ensures { RelabellingIsOneToOne R }
 {}

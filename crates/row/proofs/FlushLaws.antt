@@ -90,7 +90,7 @@ module _ (D m layer : ℕ) (b c d : Buckets) (l k j : List ℕ) (hand next : Lis
       → PathFlushed D m (layer + 1) b d l j next
   flush_more = rw (add-one layer) flush_next
 
--- a put_back_lem and a flush make the entries of a dequeue
+-- a put-back and a flush make the entries of a dequeue
 pub dequeue_enters : (D m : ℕ) (l : List ℕ) {k j : List ℕ} → k ≡ l ++ put_back_entries → j ≡ k ++ flush_entries D m
     → j ≡ l ++ dequeue_entries D m
 dequeue_enters D m l e f = f ∙ (ap (λ x. x ++ flush_entries D m) e ∙ append_assoc l put_back_entries (flush_entries D m))

@@ -1,4 +1,4 @@
--- A put_back_lem sees the root alone.
+-- A put-back sees the root alone.
 use Rattle.std.proofs.Common.{◌≡◌, ℕ, ◌≤◌, List, [], ◌∷◌, ◌++◌, length, Some, None, Option, refl, ap, ◌∙◌, arith}
 use Rattle.steps.specs.Steps.{Buckets, Row, bucket, put_back_at, put_back_from, with_bucket}
 use Rattle.tree.specs.declared.block.Block.{Block}
@@ -18,7 +18,7 @@ put_behind ps bs (b ∷ rest) = at (entry_place b ps)
     at None = refl
     at (Some i) = refl
 
--- what a put_back_lem makes of the root alone, it makes of the root of a row
+-- what a put-back makes of the root alone, it makes of the root of a row
 pub put_in_row : (bs : Buckets) (root : List Place) (q left : List Block) → 1 ≤ length bs
     → record { buckets = root ∷ []; queue = left } ≡ put_back_from (bucket bs 1 ∷ []) q
     → record { buckets = with_bucket bs 1 root; queue = left } ≡ put_back_from bs q

@@ -1,4 +1,4 @@
-// Flush: blocks sink along the path of a leaf. Dequeue: a put_back_lem, and then a flush.
+// Flush: blocks sink along the path of a leaf. Dequeue: a put-back, and then a flush.
 ghost use Rattle.std.specs.Prelude.{◌≡◌, ◌+◌, ◌<◌, ◌≤◌, true, [], ◌∷◌, ◌++◌, length, is_ok, is_err, IfOk, if◌then◌else◌, Some, None, OnOk};
 ghost use Rattle.row.specs.Rows.{decoded, decoded_row};
 ghost use Rattle.row.specs.Trials.{dequeue_moves, flush_moves, refusal, tree_buckets};

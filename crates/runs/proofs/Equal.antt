@@ -1,4 +1,4 @@
--- Equal logs, the meaning of relabelled coins, moves only, one_to_one and onto: from histories to runs.
+-- Equal logs, the meaning of relabelled coins, moves only, one-to-one and onto: from histories to runs.
 use Rattle.std.proofs.Common.{◌≡◌, ℕ, List, sym, refl, ap, ◌∙◌, subst}
 use Rattle.record.specs.declared.kind.RecordKind.{Ghosts as KindMeaning}
 use Rattle.store.specs.declared.interface.BucketStore.{Ghosts as StoreMeaning}

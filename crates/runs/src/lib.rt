@@ -28,7 +28,7 @@ pub fn leaves_only_move<K: RecordKind, S: BucketStore, P: PositionMap>()
     ensures { LeavesOnlyMove K.RecordKind S.BucketStore P.PositionMap }
 {}
 
-// Relabelling is one_to_one and onto.
+// Relabelling is one-to-one and onto.
 pub fn relabelling_is_one_to_one<K: RecordKind, S: BucketStore, P: PositionMap>()
     ensures { RelabellingIsOneToOne K.RecordKind S.BucketStore P.PositionMap }
 {}

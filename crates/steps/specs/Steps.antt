@@ -86,7 +86,7 @@ flushed_to D m bs (suc k) = moved D m (flushed_to D m bs k) k
 abbrev pub flushed : ℕ → ℕ → Row → Row
 flushed D m row = record { buckets = flushed_to D m row.buckets D; queue = row.queue }
 
--- DEQUEUE: one put_back_lem and one flush
+-- DEQUEUE: one put-back and one flush
 abbrev pub dequeued : ℕ → ℕ → Row → Row
 dequeued D m row = flushed D m (put_back row)
 

@@ -16,7 +16,7 @@ fetch_to D m (suc k) = fetch_to D m k ++ path D m k ∷ path D m k ∷ []
 abbrev pub fetch_entries : ℕ → ℕ → List ℕ
 fetch_entries D m = fetch_to D m (suc D)
 
--- a put_back_lem reads the root and writes it
+-- a put-back reads the root and writes it
 abbrev pub put_back_entries : List ℕ
 put_back_entries = 1 ∷ 1 ∷ []
 
@@ -29,7 +29,7 @@ flush_to D m (suc k) = flush_to D m k ++ path D m (suc k) ∷ path D m k ∷ []
 abbrev pub flush_entries : ℕ → ℕ → List ℕ
 flush_entries D m = flush_to D m D ++ path D m D ∷ []
 
--- a dequeue is a put_back_lem and a flush
+-- a dequeue is a put-back and a flush
 abbrev pub dequeue_entries : ℕ → ℕ → List ℕ
 dequeue_entries D m = put_back_entries ++ flush_entries D m
 

@@ -6,7 +6,7 @@ ghost use Rattle.tree.specs.Paths.{is_leaf};
 use crate::numbers::{BucketNumber, Leaf};
 use crate::paths::{DEEPEST, bucket_at, is_leaf};
 
-// The root, which a put_back_lem reads and writes.
+// The root, which a put-back reads and writes.
 pub const ROOT: BucketNumber = BucketNumber(1);
 
 // Entry k of a fetch along a leaf's path: each bucket twice.

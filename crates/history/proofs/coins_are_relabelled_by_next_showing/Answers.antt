@@ -1,6 +1,5 @@
-use Rattle.history.specs.contracts.coins_are_relabelled_by_next_showing.{R·value}
 use Rattle.history.proofs.Showings.{relabelled_by_next_showing}
 use Rattle.history.proofs.coins_are_relabelled_by_next_showing.Goals as goal
 
 pub returns : goal.returns
-returns g c = relabelled_by_next_showing (R·value g.row.R)
+returns g c = relabelled_by_next_showing _

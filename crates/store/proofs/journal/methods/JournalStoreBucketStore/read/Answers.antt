@@ -34,9 +34,9 @@ pub invariant_of-self : goal.invariant_of-self
 invariant_of-self c =
     let s = c.args.self.now in
     let a = admitted 1 c.span.result s.used c.count_buckets.result c.args.n.0 _ _ c.in_ok-start.ensures in
-    let long = c.append.auto.tail ∙ c.deref-mut.ensures.len in
+    let long = c.append.auto.tail ∙ c.deref_mut.ensures.len in
     let same = ap length (with_items_is s.tail c.append.new.tail long) ∙ long ∙ s.tail.ok.0 in
-    (still_free (s.used + 1) s.tail.items _ same (omega (arith, a.free, c.span.ensures)), tt)
+    still_free (s.used + 1) s.tail.items _ same (omega (arith, a.free, c.span.ensures))
 
 pub look_up-requires : goal.look_up-requires
 look_up-requires c =
@@ -53,8 +53,8 @@ returns c =
     let count = c.count_buckets.ensures ∙ ap bucket_count (c.len.ensures ∙ s.base.ok.0) in
     let a = admitted 1 c.span.result s.used c.count_buckets.result n _ _ c.in_ok-start.ensures in
     let free : s.used + 1 ≤ tail_span (length s.tail.items) = omega (arith, a.free, c.span.ensures) in
-    let laid = with_items_is s.tail c.append.new.tail (c.append.auto.tail ∙ c.deref-mut.ensures.len)
-    ∙ c.append.ensures ∙ ap (λ xs. overwritten xs (entry_words * s.used) (read_entry n)) c.deref-mut.ensures.value in
+    let laid = with_items_is s.tail c.append.new.tail (c.append.auto.tail ∙ c.deref_mut.ensures.len)
+    ∙ c.append.ensures ∙ ap (λ xs. overwritten xs (entry_words * s.used) (read_entry n)) c.deref_mut.ensures.value in
     record {
       answer = done-answer 1 c.span.result s.used c.count_buckets.result (journal_span s) (journal_log s) (journal_buckets s) n
           c.span.ensures (length_numbers s.used s.tail.items)

@@ -11,15 +11,15 @@ use Rattle.store.proofs.Journaling.{added_long, added_number, added_write, base_
 use Rattle.store.proofs.Transfers.{admitted, done-answer, refused-answer}
 use Rattle.store.proofs.journal.methods.JournalStoreBucketStore.write.Goals as goal
 
-pub returns-in_err--start : goal.returns-in_err--start
-returns-in_err--start c =
+pub returns-in_err-_start : goal.returns-in_err-_start
+returns-in_err-_start c =
     let s = c.args.self.now in
     let p = err_from_is_err_and c.from_residual.result c.from_residual.ensures.1 in
     let count = c.count_buckets.ensures ∙ ap bucket_count (c.len.ensures ∙ s.base.ok.0) in
     rw (p.1, p.2) (record {
       answer = refused-answer 1 c.span.result s.used c.count_buckets.result (journal_span s) (journal_log s) (journal_buckets s)
           c.args.n.0 _ _ c.span.ensures (length_numbers s.used s.tail.items)
-          (journal_long s.used s.tail.items s.base.items ∙ sym count) c.in_err--start.ensures;
+          (journal_long s.used s.tail.items s.base.items ∙ sym count) c.in_err-_start.ensures;
       enters = refl;
       holds = refl;
       spans = refl;
@@ -31,10 +31,10 @@ returns-in_err--start c =
 pub invariant_of-self : goal.invariant_of-self
 invariant_of-self c =
     let s = c.args.self.now in
-    let a = admitted 1 c.span.result s.used c.count_buckets.result c.args.n.0 _ _ c.in_ok--start.ensures in
-    let long = c.append.auto.tail ∙ c.deref-mut.ensures.len in
+    let a = admitted 1 c.span.result s.used c.count_buckets.result c.args.n.0 _ _ c.in_ok-_start.ensures in
+    let long = c.append.auto.tail ∙ c.deref_mut.ensures.len in
     let same = ap length (with_items_is s.tail c.append.new.tail long) ∙ long ∙ s.tail.ok.0 in
-    (still_free (s.used + 1) s.tail.items _ same (omega (arith, a.free, c.span.ensures)), tt)
+    still_free (s.used + 1) s.tail.items _ same (omega (arith, a.free, c.span.ensures))
 
 pub returns : goal.returns
 returns c =
@@ -42,11 +42,11 @@ returns c =
     let n = c.args.n.0 in
     let ys = c.args.words.now in
     let count = c.count_buckets.ensures ∙ ap bucket_count (c.len.ensures ∙ s.base.ok.0) in
-    let a = admitted 1 c.span.result s.used c.count_buckets.result n _ _ c.in_ok--start.ensures in
+    let a = admitted 1 c.span.result s.used c.count_buckets.result n _ _ c.in_ok-_start.ensures in
     let free : s.used + 1 ≤ tail_span (length s.tail.items) = omega (arith, a.free, c.span.ensures) in
     let long : length ys ≡ bucket_words = omega arith in
-    let laid = with_items_is s.tail c.append.new.tail (c.append.auto.tail ∙ c.deref-mut.ensures.len)
-    ∙ c.append.ensures ∙ ap (λ xs. overwritten xs (entry_words * s.used) (write_entry n ys)) c.deref-mut.ensures.value in
+    let laid = with_items_is s.tail c.append.new.tail (c.append.auto.tail ∙ c.deref_mut.ensures.len)
+    ∙ c.append.ensures ∙ ap (λ xs. overwritten xs (entry_words * s.used) (write_entry n ys)) c.deref_mut.ensures.value in
     let whole = journal_long s.used s.tail.items s.base.items ∙ sym count in
     let there = base_bucket s.used s.tail.items s.base.items n (ap (λ l. is_bucket l n) whole ∙ a.there) in
     record {

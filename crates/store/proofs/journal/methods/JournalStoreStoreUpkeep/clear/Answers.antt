@@ -12,8 +12,8 @@ returns c =
     let s = c.args.self.now in
     let ws = s.base.items in
     let count = c.count_buckets-end.ensures ∙ ap bucket_count (c.len.ensures ∙ s.base.ok.0) in
-    let words = with_items_is s.base c.blank.new.words (c.blank.auto.words ∙ c.deref-mut.ensures.len)
-    ∙ c.blank.ensures ∙ ap (λ xs. blanked (bucket_words * c.count_buckets-end.result) xs) c.deref-mut.ensures.value
+    let words = with_items_is s.base c.blank.new.words (c.blank.auto.words ∙ c.deref_mut.ensures.len)
+    ∙ c.blank.ensures ∙ ap (λ xs. blanked (bucket_words * c.count_buckets-end.result) xs) c.deref_mut.ensures.value
     ∙ ap (λ k. blanked (bucket_words * k) ws) count in
     record {
       holds = (buckets-blanked ws _ words).1 ∙ ap (λ k. replicate k (replicate bucket_words 0)) (sym (length-replayed s.used s.tail.items (buckets_in ws)));

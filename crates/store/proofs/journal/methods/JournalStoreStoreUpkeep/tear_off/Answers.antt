@@ -10,9 +10,9 @@ returns c =
     let s = c.args.self.now in
     let base = s.base.items in
     let last = c.settle.new.base in
-    let long = c.settle.auto.base ∙ c.deref-mut.ensures.len in
+    let long = c.settle.auto.base ∙ c.deref_mut.ensures.len in
     let whole = with_items_is s.base last long in
-    let value = c.deref-mut.ensures.value in
+    let value = c.deref_mut.ensures.value in
     let holds = c.settle.ensures.holds ∙ ap (λ xs. replayed s.used c.deref.result.now (buckets_in xs)) value
     ∙ ap (λ t. replayed s.used t (buckets_in base)) c.deref.ensures.value in
     let past = ap (λ xs. drop (used_words xs) last) (sym value) ∙ c.settle.ensures.past ∙ ap (λ xs. drop (used_words xs) xs) value in

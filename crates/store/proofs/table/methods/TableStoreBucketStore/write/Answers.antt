@@ -39,8 +39,8 @@ returns c =
     let count = c.count_buckets.ensures ∙ ap bucket_count (c.len.ensures ∙ s.words.ok.0) in
     let a = admitted 1 c.span.result s.used c.count_buckets.result n _ _ c.in_ok-at.ensures in
     let words = c.enter.ensures.words
-    ∙ with_items_is s.words c.copy_in.new.words (c.copy_in.auto.words ∙ c.deref-mut.ensures.len)
-    ∙ c.copy_in.ensures ∙ ap (λ ws. overwritten ws c.in_ok-at.at from) c.deref-mut.ensures.value
+    ∙ with_items_is s.words c.copy_in.new.words (c.copy_in.auto.words ∙ c.deref_mut.ensures.len)
+    ∙ c.copy_in.ensures ∙ ap (λ ws. overwritten ws c.in_ok-at.at from) c.deref_mut.ensures.value
     ∙ ap (λ at. overwritten s.words.items at from) a.same in
     let w = bucket-written s.words.items n from _ a.low (omega (arith, a.high, count)) (omega arith) words in
     record {

@@ -13,8 +13,8 @@ returns c =
     let count = c.count_buckets-end.ensures ∙ ap bucket_count (c.len.ensures ∙ s.words.ok.0) in
     let torn = c.tear_off.ensures in
     let words = torn.words
-    ∙ with_items_is s.words c.blank.new.words (c.blank.auto.words ∙ c.deref-mut.ensures.len)
-    ∙ c.blank.ensures ∙ ap (λ xs. blanked (bucket_words * c.count_buckets-end.result) xs) c.deref-mut.ensures.value
+    ∙ with_items_is s.words c.blank.new.words (c.blank.auto.words ∙ c.deref_mut.ensures.len)
+    ∙ c.blank.ensures ∙ ap (λ xs. blanked (bucket_words * c.count_buckets-end.result) xs) c.deref_mut.ensures.value
     ∙ ap (λ k. blanked (bucket_words * k) ws) count in
     record {
       holds = (buckets-blanked ws _ words).1;
