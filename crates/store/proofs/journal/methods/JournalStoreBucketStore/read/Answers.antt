@@ -36,7 +36,7 @@ invariant_of-self c =
     let a = admitted 1 c.span.result s.used c.count_buckets.result c.args.n.0 _ _ c.in_ok-start.ensures in
     let long = c.append.auto.tail ∙ c.deref_mut.ensures.len in
     let same = ap length (with_items_is s.tail c.append.new.tail long) ∙ long ∙ s.tail.ok.0 in
-    still_free (s.used + 1) s.tail.items _ same (omega (arith, a.free, c.span.ensures))
+    record { few = still_free (s.used + 1) s.tail.items _ same (omega (arith, a.free, c.span.ensures)) }
 
 pub look_up-requires : goal.look_up-requires
 look_up-requires c =
