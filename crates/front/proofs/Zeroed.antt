@@ -32,7 +32,7 @@ torn_long (row ∷ rows) = ap suc (torn_long rows)
 -- a tear-off changes nothing that never changes
 pub torn_fixed : (rows : List MapRow) → fixed_of (rows_torn rows) ≡ fixed_of rows
 torn_fixed [] = refl
-torn_fixed (row ∷ rows) = ap (λ fs. (row.depth, length row.own_val, row.span) ∷ fs) (torn_fixed rows)
+torn_fixed (row ∷ rows) = ap (λ fs. (row.depth, length row.own, row.span) ∷ fs) (torn_fixed rows)
 
 -- a row and the rows below it, torn off
 pub torn_rows : (D : ℕ) (below below' : List ℕ) (rows rows' : List MapRow) (span span' : ℕ) (log log' : List ℕ) → below' ≡ below
@@ -46,8 +46,8 @@ pub zeroed_twice : (rows : List MapRow) → rows_zeroed (rows_zeroed rows) ≡ r
 zeroed_twice [] = refl
 zeroed_twice (row ∷ rows) =
     ap (λ (n : ℕ). record { depth = row.depth; own = replicate n 0; span = row.span; log = [] } ∷ rows_zeroed (rows_zeroed rows))
-    (length-replicate (length row.own_val) 0)
-    ∙ ap (λ (r : List MapRow). record { depth = row.depth; own = replicate (length row.own_val) 0; span = row.span; log = [] } ∷ r) (zeroed_twice rows)
+    (length-replicate (length row.own) 0)
+    ∙ ap (λ (r : List MapRow). record { depth = row.depth; own = replicate (length row.own) 0; span = row.span; log = [] } ∷ r) (zeroed_twice rows)
 
 -- what fitness looks at has not changed
 pub same_unfit : (most D : ℕ) {count count' n n' k k' : ℕ} {unfit unfit' : Option ℕ} → count' ≡ count → n' ≡ n → k' ≡ k → unfit' ≡ unfit

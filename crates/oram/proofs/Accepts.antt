@@ -75,7 +75,7 @@ nothing_full : (full : Option ℕ) (rows : List MapRow) → Names full rows → 
     → Small rows → full ≡ None
 nothing_full None rows h k small = refl
 nothing_full (Some r) rows h k small =
-    let l = All-get_or (λ row. length row.own_val < capacity) rows r no_row h small in
+    let l = All-get_or (λ row. length row.own < capacity) rows r no_row h small in
     absurd (let n : ⊥ = omega arith in n)
 
 module _ {K S P F : Type 0} (store : StoreMeaning S) (maps : MapMeaning P F) (coins : List ℕ) (o : Oram K S P) where

@@ -11,7 +11,7 @@ use Rattle.oram.specs.Calls.{rows_requested}
 -- a row's log is the prescribed one, and each of its leaves the shown one, after these deeds under these coins
 pub record Follows (r : ℕ) (row : MapRow) (ds : List Deed) (cs : List (List ℕ)) : Type 0 where
   pub log : row.log ≡ log_of row.depth r ds cs
-  pub leaves : (m : ℕ) → m < length row.own_val → get_or row.own_val m 0 ≡ shown_in r ds cs m
+  pub leaves : (m : ℕ) → m < length row.own → get_or row.own m 0 ≡ shown_in r ds cs m
 
 -- all rows do
 abbrev pub AllFollow : List MapRow → List Deed → List (List ℕ) → Type 0
@@ -52,7 +52,7 @@ first_share coins k = let e : k + 0 ≡ k = omega arith in share_at coins k 0 �
 
 -- one row, asked for its number
 module _ (r : ℕ) (row : MapRow) (n : ℕ) (coins : List ℕ) (ds : List Deed) (cs : List (List ℕ)) (f : Follows r row ds cs)
-    (l : row_number r n < length row.own_val) where
+    (l : row_number r n < length row.own) where
   abbrev j : ℕ
   j = row_number r n
 
@@ -60,7 +60,7 @@ module _ (r : ℕ) (row : MapRow) (n : ℕ) (coins : List ℕ) (ds : List Deed) 
   D = row.depth
 
   abbrev own : List ℕ
-  own = row.own_val
+  own = row.own
 
   abbrev new : ℕ
   new = get_or (drop (3 * r) coins) 0 0
@@ -117,14 +117,14 @@ drained_long [] coins = refl
 drained_long (row ∷ rows) coins = ap suc (drained_long rows (drop 1 coins))
 
 -- row 0 for the record, each further row for its number
-all_numbers : (row : MapRow) (rows : List MapRow) (n : ℕ) → OwnLeaves (length row.own_val) rows → n < length row.own_val
+all_numbers : (row : MapRow) (rows : List MapRow) (n : ℕ) → OwnLeaves (length row.own) rows → n < length row.own
     → (r : ℕ) → r < length (row ∷ rows) → row_number r n < length (row_at (row ∷ rows) r).own
 all_numbers row rows n o l zero k = l
-all_numbers row rows n o l (suc r) k = has_number_lem rows (length row.own_val) n o l r (omega arith)
+all_numbers row rows n o l (suc r) k = has_number_lem rows (length row.own) n o l r (omega arith)
 
 -- a request
 pub request_follows : (row : MapRow) (rows : List MapRow) (n : ℕ) (coins : List ℕ) (ds : List Deed) (cs : List (List ℕ))
-    → OwnLeaves (length row.own_val) rows → n < length row.own_val → AllFollow (row ∷ rows) ds cs
+    → OwnLeaves (length row.own) rows → n < length row.own → AllFollow (row ∷ rows) ds cs
     → AllFollow (rows_requested (row ∷ rows) n coins) (request n ∷ ds) (coins ∷ cs)
 request_follows row rows n coins ds cs o l f r k =
     let k' : r < length (row ∷ rows) = rw (requested_long (row ∷ rows) n coins) at k in
@@ -134,7 +134,7 @@ request_follows row rows n coins ds cs o l f r k =
 
 -- a row with other entries in its log
 abbrev with_log : MapRow → List ℕ → MapRow
-with_log row log = record { depth = row.depth; own = row.own_val; span = row.span; log = log }
+with_log row log = record { depth = row.depth; own = row.own; span = row.span; log = log }
 
 -- a drain
 drained_at : (rows : List MapRow) (coins : List ℕ) (r : ℕ) → r < length rows

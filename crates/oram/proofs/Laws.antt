@@ -22,8 +22,8 @@ swapped_moves : (rows : List MapRow) (i : ℕ) (coins : List ℕ)
 swapped_moves [] i coins = refl
 swapped_moves (row ∷ rows) i coins =
     let h = swapped_moves rows (i / 8) (drop 3 coins) in
-    let a = length-append row.log (request_entries row.depth (get_or row.own_val (i / 8) 0) (get_or coins 1 0 ∷ get_or coins 2 0 ∷ [])) in
-    let b = entry_counts.request row.depth (get_or row.own_val (i / 8) 0) (get_or coins 1 0 ∷ get_or coins 2 0 ∷ []) refl in
+    let a = length-append row.log (request_entries row.depth (get_or row.own (i / 8) 0) (get_or coins 1 0 ∷ get_or coins 2 0 ∷ [])) in
+    let b = entry_counts.request row.depth (get_or row.own (i / 8) 0) (get_or coins 1 0 ∷ get_or coins 2 0 ∷ []) refl in
     omega arith
 
 requested-moves : (rows : List MapRow) (n : ℕ) (coins : List ℕ)
@@ -31,8 +31,8 @@ requested-moves : (rows : List MapRow) (n : ℕ) (coins : List ℕ)
 requested-moves [] n coins = refl
 requested-moves (row ∷ rows) n coins =
     let h = swapped_moves rows n (drop 3 coins) in
-    let a = length-append row.log (request_entries row.depth (get_or row.own_val n 0) (get_or coins 1 0 ∷ get_or coins 2 0 ∷ [])) in
-    let b = entry_counts.request row.depth (get_or row.own_val n 0) (get_or coins 1 0 ∷ get_or coins 2 0 ∷ []) refl in
+    let a = length-append row.log (request_entries row.depth (get_or row.own n 0) (get_or coins 1 0 ∷ get_or coins 2 0 ∷ [])) in
+    let b = entry_counts.request row.depth (get_or row.own n 0) (get_or coins 1 0 ∷ get_or coins 2 0 ∷ []) refl in
     omega arith
 
 drained_moves : (rows : List MapRow) (coins : List ℕ)

@@ -55,7 +55,7 @@ moves_after tears Ds k = 0
 
 -- every row can be asked at most 31 numbers
 abbrev pub Small : List MapRow → Type 0
-Small rows = All (λ row. length row.own_val < capacity) rows
+Small rows = All (λ row. length row.own < capacity) rows
 
 -- a request wants room in every queue, a drain does not
 abbrev pub Room : Sort → Option ℕ → Type 0

@@ -101,9 +101,9 @@ abbrev pub row_swapped : MapRow → ℕ → List ℕ → MapRow
 row_swapped row j coins =
     record {
       depth = row.depth;
-      own = slice_set row.own_val j (slice_index coins 0);
+      own = slice_set row.own j (slice_index coins 0);
       span = row.span;
-      log = row.log ++ request_entries row.depth (slice_index row.own_val j) (slice_index coins 1 ∷ slice_index coins 2 ∷ []);
+      log = row.log ++ request_entries row.depth (slice_index row.own j) (slice_index coins 1 ∷ slice_index coins 2 ∷ []);
     }
 
 -- every row does a request for the number divided once more, with its share of the coins
@@ -118,7 +118,7 @@ rows_drained [] coins = []
 rows_drained (row ∷ rows) coins =
     record {
       depth = row.depth;
-      own = row.own_val;
+      own = row.own;
       span = row.span;
       log = row.log ++ drain_entries row.depth (slice_index coins 0);
     }
@@ -127,17 +127,17 @@ rows_drained (row ∷ rows) coins =
 -- every log emptied, and besides every own leaf 0
 abbrev pub rows_torn : List MapRow → List MapRow
 rows_torn [] = []
-rows_torn (row ∷ rows) = record { depth = row.depth; own = row.own_val; span = row.span; log = [] } ∷ rows_torn rows
+rows_torn (row ∷ rows) = record { depth = row.depth; own = row.own; span = row.span; log = [] } ∷ rows_torn rows
 
 abbrev pub rows_zeroed : List MapRow → List MapRow
 rows_zeroed [] = []
 rows_zeroed (row ∷ rows) =
-    record { depth = row.depth; own = replicate (length row.own_val) 0; span = row.span; log = [] } ∷ rows_zeroed rows
+    record { depth = row.depth; own = replicate (length row.own) 0; span = row.span; log = [] } ∷ rows_zeroed rows
 
 -- what never changes of a row
 abbrev pub fixed_of : List MapRow → List (ℕ × ℕ × ℕ)
 fixed_of [] = []
-fixed_of (row ∷ rows) = (row.depth, length row.own_val, row.span) ∷ fixed_of rows
+fixed_of (row ∷ rows) = (row.depth, length row.own, row.span) ∷ fixed_of rows
 
 -- a named row is one that there is
 abbrev pub Names : Option ℕ → List MapRow → Type 0
@@ -149,7 +149,7 @@ divided n = (n + (leaves_per_page - 1)) / leaves_per_page
 
 abbrev pub OwnLeaves : ℕ → List MapRow → Type 0
 OwnLeaves n [] = Unit {0}
-OwnLeaves n (row ∷ rows) = (length row.own_val ≡ divided n) × OwnLeaves (divided n) rows
+OwnLeaves n (row ∷ rows) = (length row.own ≡ divided n) × OwnLeaves (divided n) rows
 
 -- a missing row has depth 0, no leaf, span 0 and an empty log
 abbrev pub no_row : MapRow

@@ -33,7 +33,7 @@ fixed_at [] [] e r = (refl, refl)
 fixed_at [] (row ∷ rows') e r = absurd (let z : ◌≡◌ {A = ℕ} 0 1 = cc in let n : ⊥ = omega arith in n)
 fixed_at (row ∷ rows) [] e r = absurd (let z : ◌≡◌ {A = ℕ} 0 1 = cc in let n : ⊥ = omega arith in n)
 fixed_at (row ∷ rows) (row' ∷ rows') e zero =
-    let p : ◌≡◌ {A = ℕ × ℕ × ℕ} (row'.depth, length row'.own, row'.span) (row.depth, length row.own_val, row.span) = cc in
+    let p : ◌≡◌ {A = ℕ × ℕ × ℕ} (row'.depth, length row'.own, row'.span) (row.depth, length row.own, row.span) = cc in
     (ap (λ f. f.0) p, ap (λ f. f.2) p)
 fixed_at (row ∷ rows) (row' ∷ rows') e (suc r) = fixed_at rows rows' (let q : fixed_of rows' ≡ fixed_of rows = cc in q) r
 
@@ -92,7 +92,7 @@ small_of : (rows : List MapRow) (fixed : List (ℕ × ℕ × ℕ)) → fixed_of 
 small_of [] fixed e h = tt
 small_of (row ∷ rows) [] e h = absurd (let z : ◌≡◌ {A = ℕ} 0 1 = cc in let n : ⊥ = omega arith in n)
 small_of (row ∷ rows) (f ∷ fixed) e h =
-    let p : ◌≡◌ {A = ℕ × ℕ × ℕ} (row.depth, length row.own_val, row.span) f = cc in
+    let p : ◌≡◌ {A = ℕ × ℕ × ℕ} (row.depth, length row.own, row.span) f = cc in
     let q : fixed_of rows ≡ fixed = cc in
     (subst (λ x. x.1 < capacity) (sym p) h.0, small_of rows fixed q h.1)
 
