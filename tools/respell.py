@@ -19,6 +19,17 @@ APART = {
     "rows-drained": "drains_rows",
     "row-swapped": "swaps_row",
     "in-range": "within_range",
+    "leaf-set": "sets_leaf",
+    "drain-refusal": "drain_refusal_lem",
+    "request-refusal": "request_refusal_lem",
+    "request-row": "request_row_lem",
+    "request-entries": "request_entries_lem",
+    "own-fit": "own_is_fit",
+    "coins-below": "coins_below_lem",
+    "same-sort": "sort_is_same",
+    "words-found": "finds_words",
+    "fetch-to": "length-fetch_to",
+    "flush-to": "length-flush_to",
 }
 # a level's own row, which is no row_of of a fault, and a lemma that the definition hasRoom would meet:
 # (start of the path, what stands before the name, old, new)

@@ -8,7 +8,7 @@ use Rattle.row.specs.Trials.{is_fit, tree_buckets}
 use Rattle.posmap.specs.Maps.{Card, MapRow, drain_refusal, leaf_refusal, log_refusal, naming, or_else, swap_refusal, unless}
 use Rattle.front.specs.Fronts.{below_first, drain_from, first_card, fit_up_to, front_full, front_rows, front_unfit, most_rows, own, raised, request_from}
 use Rattle.front.proofs.Kept.{none_unfit}
-use Rattle.front.proofs.Refusals.{drain-refusal, request-refusal}
+use Rattle.front.proofs.Refusals.{drain_refusal_lem, request_refusal_lem}
 
 pub record Fits (most D count n rows : ℕ) : Type 0 where
   pub fit : is_fit D count ≡ true
@@ -87,7 +87,7 @@ module _ (most D count span : ℕ) (leaves : List ℕ) (rows : List MapRow) (unf
     request-rest e =
         let c = not_five (counted 3) rest e in
         let long : length coins ≡ 3 * suc (length rows) = eqb-true _ _ c.0 ∙ ap (λ k. 3 * suc k) below_255 in
-        request-refusal leaves rows unfit full n D span log queue coins it_fits.depth it_fits.shallow parts.0 number long
+        request_refusal_lem leaves rows unfit full n D span log queue coins it_fits.depth it_fits.shallow parts.0 number long
         ∙ (c.1 ∙ sym request-whole)
 
     -- accepted by all rows: then the map below accepts what it is asked
@@ -111,7 +111,7 @@ module _ (most D count span : ℕ) (leaves : List ℕ) (rows : List MapRow) (unf
   drain_rest e =
       let c = not_five (counted 1) (or_else (leaf_refusal 1 0 all coins) (log_refusal drain_moves 0 all)) e in
       let long : length coins ≡ 1 * suc (length rows) = eqb-true _ _ c.0 ∙ ap (λ k. 1 * suc k) below_255 in
-      drain-refusal leaves rows unfit D span log coins it_fits.depth parts.0 long ∙ (c.1 ∙ sym drain-whole)
+      drain_refusal_lem leaves rows unfit D span log coins it_fits.depth parts.0 long ∙ (c.1 ∙ sym drain-whole)
 
   pub drain_passed : None ≡ drain_refusal all u coins → None ≡ drain_refusal rows unfit (drop 1 coins)
   drain_passed e =

@@ -162,12 +162,12 @@ or-none None = refl
 or-none (Some x) = refl
 
 -- all tests before the coins' leaves have passed: then row and map refuse a request as all their rows do
-pub request-refusal : (leaves : List ℕ) (rows : List MapRow) (unfit full : Option ℕ) (n D span : ℕ) (log : List ℕ) (queue : List Block)
+pub request_refusal_lem : (leaves : List ℕ) (rows : List MapRow) (unfit full : Option ℕ) (n D span : ℕ) (log : List ℕ) (queue : List Block)
     (coins : List ℕ) → is_depth D ≡ true → D ≤ 12 → unfit ≡ None → n < length leaves → length coins ≡ coins_per_request * suc (length rows)
     → request_from leaves rows unfit full n D span log (length queue) coins
     ≡ or_else (leaf_refusal coins_per_request 0 (front_rows D leaves span log rows) coins)
     (or_else (log_refusal request_moves 0 (front_rows D leaves span log rows)) (naming 8 (front_full queue full)))
-request-refusal leaves rows unfit full n D span log queue coins depth shallow fit number long =
+request_refusal_lem leaves rows unfit full n D span log queue coins depth shallow fit number long =
     let many : 3 ≤ length coins = omega arith in
     let rest : length (drop 3 coins) ≡ 3 * length rows = omega (arith, length-drop 3 coins) in
     let t6 = coins_below D 3 coins in
@@ -180,11 +180,11 @@ request-refusal leaves rows unfit full n D span log queue coins depth shallow fi
     (rw (leaf-named 3 0 rows (drop 3 coins), log-named request_moves 0 rows, fit, depth, lt-ltb n (length leaves) number, eq-eqb (length (drop 3 coins)) (3 * length rows) rest, le-leb 3 (length coins) many)
     (sym (at6a true t6 t7 q l6 leafs logs full (λ t. le-leb _ _ (narrow_coin D coins shallow many t)))))
 
-pub drain-refusal : (leaves : List ℕ) (rows : List MapRow) (unfit : Option ℕ) (D span : ℕ) (log coins : List ℕ)
+pub drain_refusal_lem : (leaves : List ℕ) (rows : List MapRow) (unfit : Option ℕ) (D span : ℕ) (log coins : List ℕ)
     → is_depth D ≡ true → unfit ≡ None → length coins ≡ coins_per_drain * suc (length rows)
     → drain_from rows unfit D span log coins
     ≡ or_else (leaf_refusal coins_per_drain 0 (front_rows D leaves span log rows) coins) (log_refusal drain_moves 0 (front_rows D leaves span log rows))
-drain-refusal leaves rows unfit D span log coins depth fit long =
+drain_refusal_lem leaves rows unfit D span log coins depth fit long =
     let many : 1 ≤ length coins = omega arith in
     let rest : length (drop 1 coins) ≡ 1 * length rows = omega (arith, length-drop 1 coins) in
     let leafs = leaf_row 1 0 rows (drop 1 coins) in

@@ -83,7 +83,7 @@ pub fetch_long : (D m : ℕ) (log one : List ℕ) → one ≡ log ++ fetch_entri
 fetch_long D m log one e = ap length e ∙ length-append log (fetch_entries D m) ∙ ap (λ k. length log + k) (entry_counts.fetch D m)
 
 -- the entries of both halves are those of a request
-pub request-entries : (D m a b : ℕ) (log : List ℕ) {one two : List ℕ} → one ≡ log ++ fetch_entries D m
+pub request_entries_lem : (D m a b : ℕ) (log : List ℕ) {one two : List ℕ} → one ≡ log ++ fetch_entries D m
     → two ≡ one ++ dequeues_entries D (a ∷ b ∷ []) → two ≡ log ++ request_entries D m (a ∷ b ∷ [])
-request-entries D m a b log e f =
+request_entries_lem D m a b log e f =
     f ∙ (ap (λ x. x ++ dequeues_entries D (a ∷ b ∷ [])) e ∙ append_assoc log (fetch_entries D m) (dequeues_entries D (a ∷ b ∷ [])))

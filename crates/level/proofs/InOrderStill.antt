@@ -83,12 +83,12 @@ module _ (D : ℕ) (below below' : List ℕ) (rows rows' : List MapRow) (before 
   pub swap_in_order : Swapped D below below' rows rows' before after span log log' i new shown coins
   swap_in_order =
       record {
-        ordered = rw (lower.leaf-set, became) second.ordered;
+        ordered = rw (lower.sets_leaf, became) second.ordered;
         leaves =
-            ap (λ xs. pages_from after 0 (length xs)) lower.leaf-set
+            ap (λ xs. pages_from after 0 (length xs)) lower.sets_leaf
             ∙ ap (pages_from after 0) (length-set below j (get_or coins 0 0)) ∙ set-page before after (length below) i new l holds same;
         asked =
-            ap (λ xs. level_rows D xs span log' rows') lower.leaf-set
+            ap (λ xs. level_rows D xs span log' rows') lower.sets_leaf
             ∙ ap (λ xs. level_rows D (set below j (get_or coins 0 0)) span xs rows') done.entries
             ∙ ap (λ m. level_rows D (set below j (get_or coins 0 0)) span (log ++ request_entries D m (get_or coins 1 0 ∷ get_or coins 2 0 ∷ [])) rows') within_range
             ∙ ap (level_rows D (set below j (get_or coins 0 0)) span (log ++ request_entries D old (get_or coins 1 0 ∷ get_or coins 2 0 ∷ []))) lower.rows-asked;

@@ -119,7 +119,7 @@ module _ (D count count' span span' : ℕ) (below below' : List ℕ) (rows rows'
     swap_done answer fit e =
         record {
           shown = e ∙ (swapped.answer ∙ ap (λ x. get_or (level_leaves x before (length below)) i 0) (sym fit));
-          leaf-set =
+          sets_leaf =
               ap (λ x. level_leaves x after (length below')) (same_unfit ∙ fit)
               ∙ (swapped.leaves ∙ ap (λ x. set (level_leaves x before (length below)) i new) (sym fit));
           rows-asked = ap (λ s. level_rows D below' s log' rows') es ∙ swapped.asked;

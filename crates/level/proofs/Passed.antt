@@ -12,7 +12,7 @@ use Rattle.posmap.specs.Maps.{Card, MapRow, coins_below, drain_refusal, leaves_p
 use Rattle.level.specs.Levels.{first_card, level_full, level_leaves, level_rows, level_unfit, own, own_drain_refusal, own_fit, own_swap_refusal, raised}
 use Rattle.level.specs.Facts.{fit_length, none_unfit}
 use Rattle.level.proofs.OwnTests.{Fits, fits}
-use Rattle.level.proofs.Refusals.{drain-refusal, swap_refusal_lem}
+use Rattle.level.proofs.Refusals.{drain_refusal_lem, swap_refusal_lem}
 use Rattle.level.proofs.TrialAnswers.{unfit_both}
 
 pub no_card : {c : Card} → None ≡ Some c → ⊥
@@ -125,7 +125,7 @@ module _ (unfit : Option ℕ) (below : List ℕ) (rows : List MapRow) (D count s
   pub drain_passed : None ≡ drain_refusal (level_rows D below span log rows) (level_unfit fit' unfit) coins
       → DrainPassed D count (length below) (length rows) span (length log) coins unfit × (None ≡ drain_refusal rows unfit (drop 1 coins))
   drain_passed e =
-      let b = first-none _ _ (e ∙ drain-refusal fit' unfit below rows D span log coins (drop 1 coins) (λ _. refl)) in
+      let b = first-none _ _ (e ∙ drain_refusal_lem fit' unfit below rows D span log coins (drop 1 coins) (λ _. refl)) in
       let t1 = or-none fit' _ _ b.0 in
       let t5 = or-none (eqb (length coins) (1 * suc (length rows))) _ _ t1.1 in
       let t6 = or-none (coins_below D 1 coins) _ _ t5.1 in

@@ -270,11 +270,11 @@ abbrev DrainAsked : List ℕ → List ℕ → Type 0
 DrainAsked coins rest = 1 ≤ length coins → rest ≡ drop 1 coins
 
 -- A level's refusal of a drain is the first of its own and that of the map below.
-pub drain-refusal : (fit : Bool) (unfit : Option ℕ) (below : List ℕ) (rows : List MapRow) (D span : ℕ) (log coins rest : List ℕ)
+pub drain_refusal_lem : (fit : Bool) (unfit : Option ℕ) (below : List ℕ) (rows : List MapRow) (D span : ℕ) (log coins rest : List ℕ)
     → DrainAsked coins rest
     → drain_refusal (level_rows D below span log rows) (level_unfit fit unfit) coins
     ≡ first_card (own_drain_refusal fit (length rows) D span log coins) (drain_refusal rows unfit rest)
-drain-refusal fit unfit below rows D span log coins rest asked =
+drain_refusal_lem fit unfit below rows D span log coins rest asked =
     rw (leaf-named 1 1 rows (drop 1 coins), leaf-named 1 0 rows rest, log-named drain_moves 1 rows, log-named drain_moves 0 rows, leaf-deeper 1 0 rows (drop 1 coins), log-deeper drain_moves 0 rows)
     (simp or-none at (at1 fit true true (eqb (length coins) (coins_per_drain * suc (length rows))) true (coins_below D 1 coins)
     (leb (length log + drain_moves D) span) false true (eqb (length rest) (coins_per_drain * length rows)) true unfit

@@ -47,20 +47,20 @@ module _ (D count : ℕ) (leaf : Leaf) (entries span used : ℕ) (fit : is_fit D
       })
 
 -- the entries of the steps are those of a request
-pub request-entries : (D m a b : ℕ) (log : List ℕ) {one two three : List ℕ} → one ≡ log ++ fetch_entries D m
+pub request_entries_lem : (D m a b : ℕ) (log : List ℕ) {one two three : List ℕ} → one ≡ log ++ fetch_entries D m
     → two ≡ one ++ dequeue_entries D a → three ≡ two ++ dequeue_entries D b
     → three ≡ log ++ request_entries D m (a ∷ b ∷ [])
-request-entries D m a b log e f h =
+request_entries_lem D m a b log e f h =
     h ∙ ap (λ x. x ++ dequeue_entries D b) (f ∙ ap (λ x. x ++ dequeue_entries D a) e)
     ∙ append_assoc (log ++ fetch_entries D m) (dequeue_entries D a) (dequeue_entries D b)
     ∙ append_assoc log (fetch_entries D m) (dequeue_entries D a ++ dequeue_entries D b)
     ∙ ap (λ x. log ++ (fetch_entries D m ++ (dequeue_entries D a ++ x))) (sym (append-nil (dequeue_entries D b)))
 
 -- one step after the other
-pub request-row : (D j m a b : ℕ) (page : Block) (before : Row) {got longer once twice : Row} → got ≡ fetched D j m before
+pub request_row_lem : (D j m a b : ℕ) (page : Block) (before : Row) {got longer once twice : Row} → got ≡ fetched D j m before
     → longer ≡ arriving (Some page) got → once ≡ dequeued D a longer → twice ≡ dequeued D b once
     → twice ≡ second_half D (Some page) (a ∷ b ∷ []) (fetched D j m before)
-request-row D j m a b page before e f h k =
+request_row_lem D j m a b page before e f h k =
     k ∙ ap (dequeued D b) (h ∙ ap (dequeued D a) (f ∙ ap (arriving (Some page)) e))
 
 -- how long the log is after each step
@@ -93,8 +93,8 @@ module _ (D i new shown own a b j m : ℕ) (page : Block) (block : Option Block)
         leaf = el;
         words = ew ∙ ap (λ o. page_with (page_words (words_found o)) i new) same-found;
         row =
-            request-row D j m a b page before e f h k
+            request_row_lem D j m a b page before e f h k
             ∙ (ap (λ x. second_half D (Some page) (a ∷ b ∷ []) (fetched D x m before)) ej
             ∙ ap (λ y. second_half D (Some page) (a ∷ b ∷ []) (fetched D (i / 8) y before)) em);
-        entries = request-entries D m a b log e1 e2 e3 ∙ ap (λ y. log ++ request_entries D y (a ∷ b ∷ [])) em;
+        entries = request_entries_lem D m a b log e1 e2 e3 ∙ ap (λ y. log ++ request_entries D y (a ∷ b ∷ [])) em;
       }

@@ -9,7 +9,7 @@ use Rattle.level.specs.Levels.{first_card, level_full, level_leaves, level_rows,
 use Rattle.level.specs.Facts.{fit_length, length_pages}
 use Rattle.level.proofs.CoinTests.{at, length_numbers, numbers_at, numbers_drop}
 use Rattle.level.proofs.OwnTests.{fits}
-use Rattle.level.proofs.Refusals.{drain-refusal, swap_refusal_lem}
+use Rattle.level.proofs.Refusals.{drain_refusal_lem, swap_refusal_lem}
 
 -- the coins that are left, as the code takes them
 pub left : (k : ℕ) (xs : List Leaf) → leaf_numbers (take (length xs - k) (drop k xs)) ≡ drop k (leaf_numbers xs)
@@ -23,7 +23,7 @@ pub drain-answer : (fit : Bool) (unfit : Option ℕ) (below : List ℕ) (rows : 
 drain-answer fit unfit below rows D span log xs rest {mine} {lower} {r} asked e f h =
     e ∙ ap (λ o. first_card o lower) f
     ∙ ap (first_card (own_drain_refusal fit (length rows) D span log (leaf_numbers xs))) h
-    ∙ sym (drain-refusal fit unfit below rows D span log (leaf_numbers xs) (leaf_numbers rest)
+    ∙ sym (drain_refusal_lem fit unfit below rows D span log (leaf_numbers xs) (leaf_numbers rest)
     (λ l. ap leaf_numbers (asked (rw (length_numbers xs) at l)) ∙ left 1 xs))
 
 pub unfit_both : (fit : Bool) (unfit : Option ℕ) → unfit ≡ None → fit ≡ true → level_unfit fit unfit ≡ None

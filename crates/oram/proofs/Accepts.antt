@@ -19,18 +19,18 @@ use Rattle.oram.specs.Orams.{Ordered, depths_of, full_of, records_of, row_of, ro
 use Rattle.oram.specs.Worked.{Acceptable, Small}
 
 -- what is in range passes the test of the leaves
-coins-below : (D k : ℕ) (coins : List ℕ) → ((i : ℕ) → i < k → get_or coins i 0 < 2 ^ D) → coins_below D k coins ≡ true
-coins-below D zero coins h = refl
-coins-below D (suc k) [] h = refl
-coins-below D (suc k) (m ∷ ms) h =
-    and_from (ltb m (2 ^ D)) (coins_below D k ms) (lt-ltb m (2 ^ D) (h 0 (omega arith))) (coins-below D k ms (λ i l. h (suc i) (omega arith)))
+coins_below_lem : (D k : ℕ) (coins : List ℕ) → ((i : ℕ) → i < k → get_or coins i 0 < 2 ^ D) → coins_below D k coins ≡ true
+coins_below_lem D zero coins h = refl
+coins_below_lem D (suc k) [] h = refl
+coins_below_lem D (suc k) (m ∷ ms) h =
+    and_from (ltb m (2 ^ D)) (coins_below D k ms) (lt-ltb m (2 ^ D) (h 0 (omega arith))) (coins_below_lem D k ms (λ i l. h (suc i) (omega arith)))
 
 pub leaves_pass : (share q : ℕ) (rows : List MapRow) (coins : List ℕ)
     → ((r i : ℕ) → r < length (map (λ row. row.depth) rows) → i < share → get_or coins (share * r + i) 0 < 2 ^ get_or (map (λ row. row.depth) rows) r 0)
     → leaf_refusal share q rows coins ≡ None
 leaves_pass share q [] coins h = refl
 leaves_pass share q (row ∷ rows) coins h =
-    rw (coins-below row.depth share coins (λ i l. let z : share * 0 + i ≡ i = omega (arith, mul-zero share) in rw z at (h 0 i (omega arith) l)))
+    rw (coins_below_lem row.depth share coins (λ i l. let z : share * 0 + i ≡ i = omega (arith, mul-zero share) in rw z at (h 0 i (omega arith) l)))
     (leaves_pass share (suc q) rows (drop share coins)
     (λ r i k l.
     let z : share * suc r + i ≡ share + (share * r + i) = omega (arith, mul-suc share r) in

@@ -65,14 +65,14 @@ module _ (D : ℕ) (leaves leaves' : List ℕ) (rows rows' : List MapRow) (befor
 
   asked-words : words ≡ content n before
   asked-words =
-      r.words-found
+      r.finds_words
       ∙ (ap (λ m. words_found (found D n m before)) along_is
       ∙ kept_found D leaves before after n (get_or coins 0 0) r.arrives flushes o l fits room
       (arrives-named n (get_or coins 0 0) (option_or put words) r.arrives r.arrives_as) asked-row)
 
   asked-rows : front_rows D leaves' span log' rows' ≡ rows_requested (front_rows D leaves span log rows) n coins
   asked-rows =
-      ap (λ xs. front_rows D xs span log' rows') lower.leaf-set
+      ap (λ xs. front_rows D xs span log' rows') lower.sets_leaf
       ∙ (ap (λ xs. front_rows D (set leaves n (get_or coins 0 0)) span xs rows') r.entries
       ∙ (ap (λ m. front_rows D (set leaves n (get_or coins 0 0)) span (log ++ request_entries D m flushes) rows') along_is
       ∙ ap (front_rows D (set leaves n (get_or coins 0 0)) span (log ++ request_entries D old flushes)) lower.rows-asked))
@@ -85,7 +85,7 @@ module _ (D : ℕ) (leaves leaves' : List ℕ) (rows rows' : List MapRow) (befor
         row = asked-row;
         all-rows = asked-rows;
         ordered =
-            rw lower.leaf-set
+            rw lower.sets_leaf
             (kept_order D leaves before after n (get_or coins 0 0) r.arrives flushes o l fits room
             (arrives-named n (get_or coins 0 0) (option_or put words) r.arrives r.arrives_as) asked-row);
       }

@@ -39,8 +39,8 @@ module _ {K S P F : Type 0} (store : StoreMeaning S) (maps : MapMeaning P F) (o 
     pub room : length (queued o.queue) < capacity
     pub lower : None ≡ swap_refusal (maps.leaves b) (maps.rows b) (maps.unfit b) (maps.full b) n (get_or coins 0 0) (drop 3 coins)
 
-  own-fit : fronts.Fits most_records D (length (store.buckets o.store)) (records_of maps o) (length (maps.rows b))
-  own-fit =
+  own_is_fit : fronts.Fits most_records D (length (store.buckets o.store)) (records_of maps o) (length (maps.rows b))
+  own_is_fit =
       fits most_records D (length (store.buckets o.store)) (records_of maps o) (length (maps.rows b))
       (none_unfit _ (maps.unfit b) is-fit).1
 
@@ -50,8 +50,8 @@ module _ {K S P F : Type 0} (store : StoreMeaning S) (maps : MapMeaning P F) (o 
       let long = p.right.0 in
       let m = length-map (rows_of store maps o) (λ row. row.depth) in
       record {
-        fit = own-fit.fit;
-        depth = own-fit.depth;
+        fit = own_is_fit.fit;
+        depth = own_is_fit.depth;
         many = omega arith;
         leaves = (p.right.1 0 0 (omega arith) (omega arith), p.right.1 0 1 (omega arith) (omega arith), p.right.1 0 2 (omega arith) (omega arith));
         free = row-free request_moves row (maps.rows b) p.free;
@@ -74,7 +74,7 @@ module _ {K S P F : Type 0} (store : StoreMeaning S) (maps : MapMeaning P F) (o 
       let long = p.right.0 in
       let m = length-map (rows_of store maps o) (λ row. row.depth) in
       record {
-        fit = own-fit.fit;
+        fit = own_is_fit.fit;
         many = omega arith;
         leaf = p.right.1 0 0 (omega arith) (omega arith);
         free = row-free drain_moves row (maps.rows b) p.free;

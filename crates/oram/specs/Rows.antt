@@ -13,7 +13,7 @@ words_found o = option_map (λ b. b.words) o
 -- Along the leaf `along` record n is fetched. It arrives with its new leaf, and with the words put, if any are; where none stood
 -- there and none are put, nothing arrives. Two dequeues follow.
 pub record RowRequested (D : ℕ) (before after : Row) (log log' : List ℕ) (n along new first second : ℕ) (put words : Option (List ℕ)) : Type 0 where
-  pub words-found : words ≡ words_found (found D n along before)
+  pub finds_words : words ≡ words_found (found D n along before)
   pub arrives : Option Block
   pub arrives_as : ArrivesAs n new (option_or put words) arrives
   pub row : after ≡ second_half D arrives (first ∷ second ∷ []) (fetched D n along before)

@@ -187,7 +187,7 @@ pub record SameMeaning (leaves leaves' : List ℕ) (rows rows' : List MapRow) (f
 -- what an accepted swap answers and does, of a map in order
 pub record SwapDone (leaves leaves' : List ℕ) (rows rows' : List MapRow) (i new : ℕ) (coins : List ℕ) (answer : ℕ) : Type 0 where
   pub shown : answer ≡ slice_index leaves i
-  pub leaf-set : leaves' ≡ slice_set leaves i new
+  pub sets_leaf : leaves' ≡ slice_set leaves i new
   pub rows-asked : rows' ≡ rows_swapped rows i coins
 
 -- what an accepted drain does, of a map in order

@@ -7,7 +7,7 @@ use Rattle.tree.specs.Choice.{chosen, moved_child, moved_in, moved_parent, movin
 use Rattle.tree.specs.Entries.{dequeue_entries, flush_entries, flush_to, put_back_entries}
 use Rattle.tree.specs.Paths.{is_leaf, path}
 use Rattle.tree.specs.Places.{emptied}
-use Rattle.tree.proofs.Counts.{flush-to}
+use Rattle.tree.proofs.Counts.{length-flush_to}
 use Rattle.tree.proofs.PathLaws.{path_positive, path_rises}
 use Rattle.steps.specs.Steps.{Buckets, bucket, flushed_to, moved_by, with_bucket}
 use Rattle.steps.proofs.Buckets.{bucket_other}
@@ -41,7 +41,7 @@ flush-all D m v b c d l k j hand is so holds enters = (
 pub flush_used : (D m layer : ℕ) (b c : Buckets) (l k : List ℕ) (hand : List Place) → PathFlushed D m layer b c l k hand
     → length k ≡ length l + (2 * layer + 1)
 flush_used D m layer b c l k hand so =
-    ap length so.enters ∙ (length-append l (flush_to D m layer) ∙ ap (λ n. length l + n) (flush-to D m layer))
+    ap length so.enters ∙ (length-append l (flush_to D m layer) ∙ ap (λ n. length l + n) (length-flush_to D m layer))
 
 -- a block moves between two buckets, of which the upper one was in hand
 moves : (c : Buckets) (u v : ℕ) (hand : List Place) (o : Option ℕ) → 1 ≤ u → u ≤ length c → 1 ≤ v → (u ≡ v → ⊥)

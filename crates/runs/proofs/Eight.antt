@@ -214,8 +214,8 @@ module _ {K S P F : Type 0} (kind : KindMeaning K) (store : StoreMeaning S) (map
           ∙ (ap (drop j) m.alike
           ∙ (drop-map sort j (calls_of g) ∙ (ap (map sort) (drop-map (λ x. x.call) j g) ∙ ap (λ x. map sort (calls_of x)) eg)))))
 
-      same-sort : sort s.call ≡ sort t.call
-      same-sort = cons_head sorts
+      sort_is_same : sort s.call ≡ sort t.call
+      sort_is_same = cons_head sorts
 
       alike-before : Alike (calls_of (history_of before)) (calls_of (history_of before'))
       alike-before = cons_tail sorts
@@ -246,21 +246,21 @@ module _ {K S P F : Type 0} (kind : KindMeaning K) (store : StoreMeaning S) (map
       second-eight : (c : Card) → is_done s.outcome ≡ true → None ≡ refusal_of store maps a.o s.call s.coins
           → Some c ≡ refusal_of store maps b.o t.call t.coins → c.number ≡ 8
       second-eight c acc-s e f =
-          let not-torn : sort s.call ≡ tears → ⊥ = λ x. never_torn t.call t.coins b.o c f (sym same-sort ∙ x) in
+          let not-torn : sort s.call ≡ tears → ⊥ = λ x. never_torn t.call t.coins b.o c f (sym sort_is_same ∙ x) in
           let ready = accepted_ready store maps a.o s.coins s.call not-torn (sym e) in
           let right = accepted-right N Ds h g side m.relabelled j _ _ (history_of before) (history_of before') eh eg acc-s in
           let T : Sort → Type 0 = λ x. Ready store maps x (named t.call) t.coins b.o in
           other_eight t.call t.coins b.o c f
-          (subst T same-sort
+          (subst T sort_is_same
           (ready_moves N rows unfit (history_of before) (history_of before') a.o b.o worked worked' shaped shaped' alike-before acc (sort s.call)
-          (named s.call) (named t.call) s.coins t.coins (λ x. second-asks (sym same-sort ∙ x))
+          (named s.call) (named t.call) s.coins t.coins (λ x. second-asks (sym sort_is_same ∙ x))
           (subst (λ ds. RightCoins (sort s.call) ds t.coins) (sym (shaped_region b.o shaped').1) right) ready))
 
       -- the second accepts, the first refuses
       first-eight : (c : Card) → is_done s.outcome ≡ false → None ≡ refusal_of store maps b.o t.call t.coins
           → Some c ≡ refusal_of store maps a.o s.call s.coins → c.number ≡ 8
       first-eight c ref-s e f =
-          let not-torn : sort t.call ≡ tears → ⊥ = λ x. never_torn s.call s.coins a.o c f (same-sort ∙ x) in
+          let not-torn : sort t.call ≡ tears → ⊥ = λ x. never_torn s.call s.coins a.o c f (sort_is_same ∙ x) in
           let ready = accepted_ready store maps b.o t.coins t.call not-torn (sym e) in
           let coins = refused-same N Ds h g side m.relabelled j _ _ (history_of before) (history_of before') eh eg ref-s in
           let right : RightCoins (sort t.call) (depths_of store maps a.o) s.coins =
@@ -268,9 +268,9 @@ module _ {K S P F : Type 0} (kind : KindMeaning K) (store : StoreMeaning S) (map
           (subst (RightCoins (sort t.call) (depths_of store maps b.o)) coins ready.right) in
           let T : Sort → Type 0 = λ x. Ready store maps x (named s.call) s.coins a.o in
           other_eight s.call s.coins a.o c f
-          (subst T (sym same-sort)
+          (subst T (sym sort_is_same)
           (ready_moves N rows unfit (history_of before') (history_of before) b.o a.o worked' worked shaped' shaped (sym alike-before) (sym acc) (sort t.call)
-          (named t.call) (named s.call) t.coins s.coins (λ x. first-asks (same-sort ∙ x)) right ready))
+          (named t.call) (named s.call) t.coins s.coins (λ x. first-asks (sort_is_same ∙ x)) right ready))
 
       pub differ_at : (is_done s.outcome ≡ is_done t.outcome → ⊥) → ByEight s.outcome × ByEight t.outcome
       differ_at ne = go s.outcome t.outcome refl refl

@@ -5,27 +5,27 @@ use Rattle.std.proofs.lemmas.Bool.{both_ways, and_left, and_from, and_parts}
 use Rattle.tree.specs.Entries.{EntryCounts, fetch_to, fetch_entries, flush_to, flush_entries, dequeue_entries, dequeues_entries, request_entries, request_moves, dequeues_per_request, total, all_depths}
 use Rattle.tree.specs.Paths.{path, is_depth}
 
-pub fetch-to : (D m k : ℕ) → length (fetch_to D m k) ≡ 2 * k
-fetch-to D m zero = refl
-fetch-to D m (suc k) =
+pub length-fetch_to : (D m k : ℕ) → length (fetch_to D m k) ≡ 2 * k
+length-fetch_to D m zero = refl
+length-fetch_to D m (suc k) =
     let h = length-append (fetch_to D m k) (path D m k ∷ path D m k ∷ []) in
-    let i = fetch-to D m k in
+    let i = length-fetch_to D m k in
     omega arith
 
-pub flush-to : (D m k : ℕ) → length (flush_to D m k) ≡ 2 * k + 1
-flush-to D m zero = refl
-flush-to D m (suc k) =
+pub length-flush_to : (D m k : ℕ) → length (flush_to D m k) ≡ 2 * k + 1
+length-flush_to D m zero = refl
+length-flush_to D m (suc k) =
     let h = length-append (flush_to D m k) (path D m (suc k) ∷ path D m k ∷ []) in
-    let i = flush-to D m k in
+    let i = length-flush_to D m k in
     omega arith
 
 pub fetch_long : (D m : ℕ) → length (fetch_entries D m) ≡ 2 * D + 2
-fetch_long D m = let i = fetch-to D m (suc D) in omega arith
+fetch_long D m = let i = length-fetch_to D m (suc D) in omega arith
 
 pub flush_long : (D m : ℕ) → length (flush_entries D m) ≡ 2 * D + 2
 flush_long D m =
     let h = length-append (flush_to D m D) (path D m D ∷ []) in
-    let i = flush-to D m D in
+    let i = length-flush_to D m D in
     omega arith
 
 pub dequeue_long : (D m : ℕ) → length (dequeue_entries D m) ≡ 2 * D + 4

@@ -7,7 +7,7 @@ use Rattle.tree.specs.declared.numbers.BucketNumber.{BucketNumber}
 use Rattle.tree.specs.declared.numbers.Leaf.{Leaf}
 use Rattle.tree.specs.Entries.{Entry, are_leaves, dequeue_entries, fetch_entries, fetch_to, flush_entries, flush_layer, flush_to, layer_in, request_entries}
 use Rattle.tree.specs.Paths.{is_depth, is_leaf, on_path, path}
-use Rattle.tree.proofs.Counts.{dequeue_long, fetch_long, fetch-to, flush_long, flush-to}
+use Rattle.tree.proofs.Counts.{dequeue_long, fetch_long, length-fetch_to, flush_long, length-flush_to}
 
 -- an entry that is the bucket at a layer of the path
 pub entry_from : (D : ℕ) (m : Leaf) (d k : ℕ) (es : List ℕ) (r : Option BucketNumber) → r ≡ on_path D m d
@@ -41,7 +41,7 @@ two_more f xs n a b k long known p q h = ⊎_elim below above (cases_lt k n)
 fetch_at : (D m K k : ℕ) → k < 2 * K → get_or (fetch_to D m K) k 0 ≡ path D m (k / 2)
 fetch_at D m zero k h = absurd (let z : ⊥ = omega arith in z)
 fetch_at D m (suc K) k h =
-    two_more (λ j. path D m (j / 2)) (fetch_to D m K) (2 * K) (path D m K) (path D m K) k (fetch-to D m K)
+    two_more (λ j. path D m (j / 2)) (fetch_to D m K) (2 * K) (path D m K) (path D m K) k (length-fetch_to D m K)
     (λ l. fetch_at D m K k l) (ap (path D m) (let e : K ≡ 2 * K / 2 = omega arith in e))
     (ap (path D m) (let e : K ≡ (2 * K + 1) / 2 = omega arith in e)) (omega arith)
 
@@ -54,7 +54,7 @@ layer_even K = grind (arith, nat_tests)
 flush_at : (D m K k : ℕ) → k < 2 * K + 1 → get_or (flush_to D m K) k 0 ≡ path D m (layer_in k)
 flush_at D m zero k h = let e : k ≡ 0 = omega arith in subst (λ (j : ℕ). get_or (flush_to D m zero) j 0 ≡ path D m (layer_in j)) (sym e) refl
 flush_at D m (suc K) k h =
-    two_more (λ j. path D m (layer_in j)) (flush_to D m K) (2 * K + 1) (path D m (suc K)) (path D m K) k (flush-to D m K)
+    two_more (λ j. path D m (layer_in j)) (flush_to D m K) (2 * K + 1) (path D m (suc K)) (path D m K) k (length-flush_to D m K)
     (λ l. flush_at D m K k l) (ap (path D m) (layer_odd K)) (ap (path D m) (layer_even K)) (omega arith)
 
 -- an entry of a fetch, and of a flush
@@ -77,7 +77,7 @@ pub flush_entry : (D : ℕ) (m : Leaf) (k d : ℕ) (r : Option BucketNumber) →
 flush_entry D m k d r e is h = ⊎_elim last inside (layer_ways D k h)
   where
     long : length (flush_to D m.0 D) ≡ 2 * D + 1
-    long = flush-to D m.0 D
+    long = length-flush_to D m.0 D
 
     last : (k ≡ 2 * D + 1) × (flush_layer D k ≡ D) → Entry (is_leaf D m.0) (flush_entries D m.0) k r
     last w =

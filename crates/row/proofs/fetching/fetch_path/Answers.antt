@@ -1,6 +1,6 @@
 use Rattle.std.proofs.Common.{◌≡◌, suc, ◌≤◌, length, ap, ◌∙◌, arith}
 use Rattle.std.proofs.lemmas.List.{length-append}
-use Rattle.tree.proofs.Counts.{fetch-to}
+use Rattle.tree.proofs.Counts.{length-fetch_to}
 use Rattle.tree.proofs.PathLaws.{path_positive}
 use Rattle.tree.specs.Entries.{fetch_to}
 use Rattle.row.proofs.FetchLaws.{fetch_more}
@@ -16,7 +16,7 @@ fetch_bucket-block-requires g c =
     let low = path_positive D m k in
     let high = path_there D m k _ c.requires.leaf in_tree c.requires.fits in
     let used = ap length c.loop-layer.invariant.0.enters ∙ length-append _ (fetch_to D m k) in
-    let long = fetch_to D m k in
+    let long = length-fetch_to D m k in
     record { some = (omega arith, omega arith); free = omega arith }
 
 pub loop-layer-preserved : goal.loop-layer-preserved
