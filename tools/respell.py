@@ -91,7 +91,7 @@ def library():
     return out
 
 
-def main(argv):
+def main(argv, first):
     specs, lemmas, answers = names()
     words = {camel(n) for n in specs} | STD
     kit = library()
@@ -131,7 +131,7 @@ def main(argv):
 
         out = text
         for start, before, a, b in IN_FILES:
-            if p.startswith(start):
+            if first and p.startswith(start):
                 out = re.sub(before + a + r"(?![A-Za-z0-9_'\-])", b, out)
         text = out
         out = TOKEN.sub(turn, text)
@@ -141,5 +141,6 @@ def main(argv):
 
 
 # twice, since a name may lose a dash only once its parts are turned
-for _ in range(1 if "--list" in sys.argv else 2):
-    main(sys.argv[1:])
+main(sys.argv[1:], True)
+if "--list" not in sys.argv:
+    main([], False)
