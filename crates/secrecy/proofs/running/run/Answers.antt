@@ -17,8 +17,8 @@ loop-i-init g c = (
   ap length c.new-answers.ensures.items,
   c.requires.few,
   ran_none g.K.RecordKind g.S.BucketStore g.P.PositionMap (calls_in c.args.calls.now) (coins_in c.args.coins.now) c.args.oram.now
-      (outcomes_in g.Fault.CardFault (vec_items c.new-answers.result)) (map vec_items (vec_items c.new-shots.result))
-      (ap (outcomes_in g.Fault.CardFault) c.new-answers.ensures.items) (ap (map vec_items) c.new-shots.ensures.items) c.requires.begun,
+      (outcomes_in g.P.Fault.CardFault (vec_items c.new-answers.result)) (map vec_items (vec_items c.new-shots.result))
+      (ap (outcomes_in g.P.Fault.CardFault) c.new-answers.ensures.items) (ap (map vec_items) c.new-shots.ensures.items) c.requires.begun,
 )
 
 pub seen-requires : goal.seen-requires
@@ -41,7 +41,7 @@ loop-i-preserved g c =
     let k = g.K.RecordKind in
     let s = g.S.BucketStore in
     let m = g.P.PositionMap in
-    let card = g.Fault.CardFault in
+    let card = g.P.Fault.CardFault in
     let calls = c.args.calls.now in
     let coins = c.args.coins.now in
     let i = c.loop-i.i in

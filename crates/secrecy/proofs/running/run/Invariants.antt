@@ -8,4 +8,4 @@ abbrev pub invariant-loop-i : goal.invariant-loop-i
 invariant-loop-i g l =
     (length (vec_items l.answers) ≡ l.i) × (length (rows_of g.S.BucketStore g.P.PositionMap l.oram) ≤ 255)
     × RanTo g.K.RecordKind g.S.BucketStore g.P.PositionMap (calls_in l.calls) (coins_in l.coins)
-    (outcomes_in g.Fault.CardFault (vec_items l.answers)) (map vec_items (vec_items l.shots)) l.oram
+    (outcomes_in g.P.Fault.CardFault (vec_items l.answers)) (map vec_items (vec_items l.shots)) l.oram

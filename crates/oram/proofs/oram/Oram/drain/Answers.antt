@@ -25,7 +25,7 @@ returns-in_err-fit g c =
     let m = g.P.PositionMap in
     let cs = leaf_numbers c.args.coins.now in
     let p = err_from_is_err_and c.from_residual.result c.from_residual.ensures.1 in
-    let d : Does k s m cs o o draining (done g.Fault.CardFault c.from_residual.result) =
+    let d : Does k s m cs o o draining (done g.P.Fault.CardFault c.from_residual.result) =
     rw (p.1, p.2) (refused_at_once k s m cs o draining _ (unfit_refuses k s m cs o (naming 1 (unfit_of s m o)) _ _ c.in_err-fit.ensures)) in
     record { does = d; law = lawful k s m g.met.K.RecordKind.again cs o o draining _ d }
 
@@ -37,7 +37,7 @@ returns-in_err-drain_tested g c =
     let m = g.P.PositionMap in
     let cs = leaf_numbers c.args.coins.now in
     let p = err_from_is_err_and c.from_residual-in_err-drain_tested.result c.from_residual-in_err-drain_tested.ensures.1 in
-    let d : Does k s m cs o o draining (done g.Fault.CardFault c.from_residual-in_err-drain_tested.result) =
+    let d : Does k s m cs o o draining (done g.P.Fault.CardFault c.from_residual-in_err-drain_tested.result) =
     rw (p.1, p.2) (refused_at_once k s m cs o draining _ c.in_err-drain_tested.ensures) in
     record { does = d; law = lawful k s m g.met.K.RecordKind.again cs o o draining _ d }
 

@@ -13,7 +13,7 @@ returns-in_err-shares g c =
     let m = g.P.PositionMap in
     let s = g.S.BucketStore in
     let p = err_from_is_err_and c.from_residual.result c.from_residual.ensures.1 in
-    same_place g.Fault.CardFault _ p.0 c.from_residual.result p.1 p.2
+    same_place g.P.Fault.CardFault _ p.0 c.from_residual.result p.1 p.2
     ∙ drain_five most_records o.depth (length (s.buckets o.store)) (s.span o.store) (m.leaves b) (m.rows b) (m.unfit b) (s.log o.store)
     (leaf_numbers c.args.coins.now) c.requires _ c.in_err-shares.ensures
 
@@ -24,7 +24,7 @@ returns-in_err-trial_drain g c =
     let m = g.P.PositionMap in
     let s = g.S.BucketStore in
     let p = err_from_is_err_and c.from_residual-in_err-trial_drain.result c.from_residual-in_err-trial_drain.ensures.1 in
-    same_place g.Fault.CardFault _ p.0 c.from_residual-in_err-trial_drain.result p.1 p.2
+    same_place g.P.Fault.CardFault _ p.0 c.from_residual-in_err-trial_drain.result p.1 p.2
     ∙ (c.in_err-trial_drain.ensures
     ∙ drain_rest most_records o.depth (length (s.buckets o.store)) (s.span o.store) (m.leaves b) (m.rows b) (m.unfit b) (s.log o.store)
     (leaf_numbers c.args.coins.now) c.requires c.in_ok-shares.ensures)

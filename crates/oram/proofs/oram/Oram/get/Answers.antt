@@ -19,7 +19,7 @@ returns-in_err-in_time g c =
     let call = getting n in
     let p = err_from_is_err_and c.from_residual.result c.from_residual.ensures.1 in
     let time = ask_time (records_of m o) o.opened n in
-    let d : Does k s m cs o o call (found g.Fault.CardFault c.from_residual.result) =
+    let d : Does k s m cs o o call (found g.P.Fault.CardFault c.from_residual.result) =
     rw (p.1, p.2) (refused_at_once k s m cs o call _ (time_refuses k s m cs o (naming 1 (unfit_of s m o)) time (request_refusal s m o n cs) _ c.in_err-in_time.ensures)) in
     record { does = d; law = lawful k s m g.met.K.RecordKind.again cs o o call _ d }
 
@@ -34,8 +34,8 @@ returns-in_err-words g c =
     let call = getting n in
     let o' = c.request.new.self in
     let p = err_from_is_err_and c.from_residual-in_err-words.result c.from_residual-in_err-words.ensures.1 in
-    let d : Does k s m cs o o' call (found g.Fault.CardFault c.from_residual-in_err-words.result) =
-    rw (p.1, p.2) (request-refused k s m cs o g.Fault.CardFault o' n None (ask_time (records_of m o) o.opened n) c.in_ok-in_time.ensures call refl _ c.in_err-words.ensures) in
+    let d : Does k s m cs o o' call (found g.P.Fault.CardFault c.from_residual-in_err-words.result) =
+    rw (p.1, p.2) (request-refused k s m cs o g.P.Fault.CardFault o' n None (ask_time (records_of m o) o.opened n) c.in_ok-in_time.ensures call refl _ c.in_err-words.ensures) in
     record { does = d; law = lawful k s m g.met.K.RecordKind.again cs o o' call _ d }
 
 pub returns : goal.returns
@@ -48,6 +48,6 @@ returns g c =
     let cs = leaf_numbers c.args.coins.now in
     let call = getting n in
     let o' = c.request.new.self in
-    let d = get_done k s m cs o g.Fault.CardFault o' n c.in_ok-in_time.ensures c.in_ok-words.words c.record_in.result
+    let d = get_done k s m cs o g.P.Fault.CardFault o' n c.in_ok-in_time.ensures c.in_ok-words.words c.record_in.result
     c.record_in.ensures c.in_ok-words.ensures in
     record { does = d; law = lawful k s m g.met.K.RecordKind.again cs o o' call _ d }
