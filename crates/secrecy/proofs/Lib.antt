@@ -1,4 +1,3 @@
 pub mod Flats
 pub mod Going
 pub mod LikeLists
-pub mod Walk
