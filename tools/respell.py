@@ -66,20 +66,26 @@ def made(p):
     return os.path.basename(p) in ("Answers.antt", "Invariants.antt", "Proof.antt")
 
 
+FUNCTION = re.compile(r"^(?:abbrev |unfoldable )(?:unfoldable )?(?:pub )?([a-z_][A-Za-z0-9_'\-]*) *:")
 HEAD = re.compile(r"^( *)(?:abbrev )?(?:unfoldable )?(?:pub )?(?:record |data |ruleset )?([A-Za-z_][A-Za-z0-9_'\-]*)((?: +[a-z_][A-Za-z0-9_'\-]*)*) *(?:\{|\(|:)")
 
 
 def names():
-    """Names that specs/ define, names that proofs/ define outside the files of answers, and names that files of answers define."""
-    specs, lemmas, answers = set(), set(), set()
+    """Names that specs/ define, names that proofs/ define, those among them that are functions, and those that are lemmas of a file."""
+    specs, lemmas, functions, tops = set(), set(), set(), set()
     for p in files():
         if not p.endswith(".antt"):
             continue
         for line in read(p).splitlines():
             m = HEAD.match(line)
-            if m and not line.startswith(("use ", "--")):
-                (answers if made(p) else specs if "/specs/" in p else lemmas).add(m.group(2))
-    return specs, lemmas, answers
+            if m and not made(p) and not line.startswith(("use ", "--")):
+                (specs if "/specs/" in p else lemmas).add(m.group(2))
+                if not m.group(1):
+                    tops.add(m.group(2))
+                f = FUNCTION.match(line)
+                if f:
+                    functions.add(camel(f.group(1)))
+    return specs, lemmas, functions, tops
 
 
 def library():
@@ -91,9 +97,16 @@ def library():
     return out
 
 
+def join(parts, words):
+    """The first dash stays where a function's name stands before it and after it: blockOf-append, length-append_right."""
+    if len(parts) > 2 and parts[0] in words and parts[1] in words:
+        return parts[0] + "-" + "_".join(parts[1:])
+    return "_".join(parts)
+
+
 def main(argv, first):
-    specs, lemmas, answers = names()
-    words = {camel(n) for n in specs} | STD
+    specs, lemmas, functions, tops = names()
+    words = functions | STD
     kit = library()
     new = {}
     every = set()
@@ -107,9 +120,11 @@ def main(argv, first):
             if parts[0] != t:
                 new[t] = parts[0]
         elif t in (specs | lemmas) - kit:
-            to = parts[0]
-            for q in parts[1:]:
-                to += ("-" if to in words and q in words else "_") + q
+            # a lemma on named functions keeps its dash; a field, a constructor or a plain word has none
+            if t in tops and all(q in words for q in parts):
+                to = "-".join(parts)
+            else:
+                to = join(parts, words)
             if to != t:
                 new[t] = to
     for t in sorted(new):
@@ -125,7 +140,7 @@ def main(argv, first):
 
         def turn(m):
             t = m.group(1)
-            if m.start() and text[m.start() - 1] == "/" or text[m.end() : m.end() + 3] in (".rt", ".ed"):
+            if text[: m.start()].endswith(("/", "goal.", " c.", "(c.")) or text[m.end() : m.end() + 3] in (".rt", ".ed"):
                 return t
             return new.get(t, t)
 

@@ -51,7 +51,7 @@ first-none (Some c) (Some d) e = absurd (go (below_first c d) e)
     go false h = let z : ◌≡◌ {A = ℕ} 0 1 = cc in omega arith
 
 module _ (most D count span : ℕ) (leaves : List ℕ) (rows : List MapRow) (unfit : Option ℕ) (log : List ℕ) (coins : List ℕ)
-    (whole-fit : front_unfit (fit_up_to most D count (length leaves) (length rows)) unfit ≡ None) where
+    (whole_fit : front_unfit (fit_up_to most D count (length leaves) (length rows)) unfit ≡ None) where
   abbrev all : List MapRow
   all = front_rows D leaves span log rows
 
@@ -62,7 +62,7 @@ module _ (most D count span : ℕ) (leaves : List ℕ) (rows : List MapRow) (unf
   counted share = eqb (length coins) (share * suc (min 255 (length rows)))
 
   parts : (unfit ≡ None) × (fit_up_to most D count (length leaves) (length rows) ≡ true)
-  parts = none_unfit (fit_up_to most D count (length leaves) (length rows)) unfit whole-fit
+  parts = none_unfit (fit_up_to most D count (length leaves) (length rows)) unfit whole_fit
 
   it_fits : Fits most D count (length leaves) (length rows)
   it_fits = fits most D count (length leaves) (length rows) parts.1
@@ -76,46 +76,46 @@ module _ (most D count span : ℕ) (leaves : List ℕ) (rows : List MapRow) (unf
     rest =
         or_else (leaf_refusal 3 0 all coins) (or_else (log_refusal request_moves 0 all) (naming 8 (front_full queue full)))
 
-    request-whole : swap_refusal leaves all u (front_full queue full) n 0 coins ≡ or_else (unless (counted 3) (own 5)) rest
-    request-whole = rw (whole-fit, lt-ltb n (length leaves) number, below_255) refl
+    request_whole : swap_refusal leaves all u (front_full queue full) n 0 coins ≡ or_else (unless (counted 3) (own 5)) rest
+    request_whole = rw (whole_fit, lt-ltb n (length leaves) number, below_255) refl
 
     pub request_five : (k : Card) → Some k ≡ unless (counted 3) (own 5) → Some k ≡ swap_refusal leaves all u (front_full queue full) n 0 coins
-    request_five k e = five (counted 3) k rest e ∙ sym request-whole
+    request_five k e = five (counted 3) k rest e ∙ sym request_whole
 
-    pub request-rest : None ≡ unless (counted 3) (own 5)
+    pub request_rest : None ≡ unless (counted 3) (own 5)
         → request_from leaves rows unfit full n D span log (length queue) coins ≡ swap_refusal leaves all u (front_full queue full) n 0 coins
-    request-rest e =
+    request_rest e =
         let c = not_five (counted 3) rest e in
         let long : length coins ≡ 3 * suc (length rows) = eqb-true _ _ c.0 ∙ ap (λ k. 3 * suc k) below_255 in
         request_refusal_lem leaves rows unfit full n D span log queue coins it_fits.depth it_fits.shallow parts.0 number long
-        ∙ (c.1 ∙ sym request-whole)
+        ∙ (c.1 ∙ sym request_whole)
 
     -- accepted by all rows: then the map below accepts what it is asked
     pub request_passed : None ≡ swap_refusal leaves all u (front_full queue full) n 0 coins
         → None ≡ swap_refusal leaves rows unfit full n (get_or coins 0 0) (drop 3 coins)
     request_passed e =
-        let w = or-none (unless (counted 3) (own 5)) rest (e ∙ request-whole) in
+        let w = or-none (unless (counted 3) (own 5)) rest (e ∙ request_whole) in
         let c = not_five (counted 3) rest w.0 in
         let long : length coins ≡ 3 * suc (length rows) = eqb-true _ _ c.0 ∙ ap (λ k. 3 * suc k) below_255 in
         let many : 3 ≤ length coins = omega arith in
-        (first-none _ _ (e ∙ (sym (request-rest w.0) ∙ cond-true _ _ _ (le-leb 3 (length coins) many)))).1
+        (first-none _ _ (e ∙ (sym (request_rest w.0) ∙ cond-true _ _ _ (le-leb 3 (length coins) many)))).1
 
   -- and a drain
-  drain-whole : drain_refusal all u coins ≡ or_else (unless (counted 1) (own 5)) (or_else (leaf_refusal 1 0 all coins) (log_refusal drain_moves 0 all))
-  drain-whole = rw (whole-fit, below_255) refl
+  drain_whole : drain_refusal all u coins ≡ or_else (unless (counted 1) (own 5)) (or_else (leaf_refusal 1 0 all coins) (log_refusal drain_moves 0 all))
+  drain_whole = rw (whole_fit, below_255) refl
 
   pub drain_five : (k : Card) → Some k ≡ unless (counted 1) (own 5) → Some k ≡ drain_refusal all u coins
-  drain_five k e = five (counted 1) k _ e ∙ sym drain-whole
+  drain_five k e = five (counted 1) k _ e ∙ sym drain_whole
 
   pub drain_rest : None ≡ unless (counted 1) (own 5) → drain_from rows unfit D span log coins ≡ drain_refusal all u coins
   drain_rest e =
       let c = not_five (counted 1) (or_else (leaf_refusal 1 0 all coins) (log_refusal drain_moves 0 all)) e in
       let long : length coins ≡ 1 * suc (length rows) = eqb-true _ _ c.0 ∙ ap (λ k. 1 * suc k) below_255 in
-      drain_refusal_lem leaves rows unfit D span log coins it_fits.depth parts.0 long ∙ (c.1 ∙ sym drain-whole)
+      drain_refusal_lem leaves rows unfit D span log coins it_fits.depth parts.0 long ∙ (c.1 ∙ sym drain_whole)
 
   pub drain_passed : None ≡ drain_refusal all u coins → None ≡ drain_refusal rows unfit (drop 1 coins)
   drain_passed e =
-      let w = or-none (unless (counted 1) (own 5)) (or_else (leaf_refusal 1 0 all coins) (log_refusal drain_moves 0 all)) (e ∙ drain-whole) in
+      let w = or-none (unless (counted 1) (own 5)) (or_else (leaf_refusal 1 0 all coins) (log_refusal drain_moves 0 all)) (e ∙ drain_whole) in
       let c = not_five (counted 1) (or_else (leaf_refusal 1 0 all coins) (log_refusal drain_moves 0 all)) w.0 in
       let long : length coins ≡ 1 * suc (length rows) = eqb-true _ _ c.0 ∙ ap (λ k. 1 * suc k) below_255 in
       let many : 1 ≤ length coins = omega arith in

@@ -16,9 +16,9 @@ module _ (most D : ℕ) {count count' span span' : ℕ} {below below' : List ℕ
     (log log' : List ℕ) (frame : SameFrame below below' rows rows' unfit unfit') (ec : count' ≡ count) (es : span' ≡ span) where
   pub unfit_kept : front_unfit (fit_up_to most D count' (length below') (length rows')) unfit'
       ≡ front_unfit (fit_up_to most D count (length below) (length rows)) unfit
-  unfit_kept = same_unfit most D ec frame.length-stays (same_long rows rows' frame.rows_stay) frame.unfit_stays
+  unfit_kept = same_unfit most D ec frame.length_stays (same_long rows rows' frame.rows_stay) frame.unfit_stays
 
   pub rows_kept : fixed_of (front_rows D below' span' log' rows') ≡ fixed_of (front_rows D below span log rows)
   rows_kept =
-      ap (λ n. (D, n, span') ∷ fixed_of rows') frame.length-stays
+      ap (λ n. (D, n, span') ∷ fixed_of rows') frame.length_stays
       ∙ (ap (λ s. (D, length below, s) ∷ fixed_of rows') es ∙ ap (λ r. (D, length below, span) ∷ r) frame.rows_stay)

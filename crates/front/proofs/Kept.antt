@@ -26,9 +26,9 @@ none_unfit false None e = absurd (let z : ◌≡◌ {A = ℕ} 0 1 = cc in let n 
 none_unfit fit (Some r) e = absurd (let z : ◌≡◌ {A = ℕ} 0 1 = cc in let n : ⊥ = omega arith in n)
 
 -- nothing full: nothing below, and the queue does not hold 32
-pub none-full : (b : Bool) (full : Option ℕ) → cond b (Some 0) (deeper full) ≡ None → b ≡ false
-none-full true full e = absurd (let z : ◌≡◌ {A = ℕ} 0 1 = cc in let n : ⊥ = omega arith in n)
-none-full false full e = refl
+pub none_full : (b : Bool) (full : Option ℕ) → cond b (Some 0) (deeper full) ≡ None → b ≡ false
+none_full true full e = absurd (let z : ◌≡◌ {A = ℕ} 0 1 = cc in let n : ⊥ = omega arith in n)
+none_full false full e = refl
 
 -- a queue that does not hold 32 has room
 pub room_left : (q : Queue) → eqb (length (queued q)) capacity ≡ false → length (queued q) < capacity

@@ -31,17 +31,17 @@ missing_named : (n r : ℕ) (b : Bool) (o : Option ℕ)
 missing_named n r true o = refl
 missing_named n r false o = refl
 
-leaf-named : (share r : ℕ) (rows : List MapRow) (coins : List ℕ)
+leaf_named : (share r : ℕ) (rows : List MapRow) (coins : List ℕ)
     → leaf_refusal share r rows coins ≡ naming 6 (leaf_row share r rows coins)
-leaf-named share r [] coins = refl
-leaf-named share r (row ∷ rows) coins =
-    ap (or_else _) (leaf-named share (suc r) rows (drop share coins))
+leaf_named share r [] coins = refl
+leaf_named share r (row ∷ rows) coins =
+    ap (or_else _) (leaf_named share (suc r) rows (drop share coins))
     ∙ missing_named 6 r (coins_below row.depth share coins) (leaf_row share (suc r) rows (drop share coins))
 
-log-named : (moves : ℕ → ℕ) (r : ℕ) (rows : List MapRow) → log_refusal moves r rows ≡ naming 7 (log_row moves r rows)
-log-named moves r [] = refl
-log-named moves r (row ∷ rows) =
-    ap (or_else _) (log-named moves (suc r) rows)
+log_named : (moves : ℕ → ℕ) (r : ℕ) (rows : List MapRow) → log_refusal moves r rows ≡ naming 7 (log_row moves r rows)
+log_named moves r [] = refl
+log_named moves r (row ∷ rows) =
+    ap (or_else _) (log_named moves (suc r) rows)
     ∙ missing_named 7 r (leb (length row.log + moves row.depth) row.span) (log_row moves (suc r) rows)
 
 -- counted from the next row on, every row is one deeper
@@ -49,25 +49,25 @@ missing_deeper : (r : ℕ) (b : Bool) (o : Option ℕ) → missing (suc r) b (de
 missing_deeper r true o = refl
 missing_deeper r false o = refl
 
-leaf-deeper : (share r : ℕ) (rows : List MapRow) (coins : List ℕ)
+leaf_deeper : (share r : ℕ) (rows : List MapRow) (coins : List ℕ)
     → leaf_row share (suc r) rows coins ≡ deeper (leaf_row share r rows coins)
-leaf-deeper share r [] coins = refl
-leaf-deeper share r (row ∷ rows) coins =
-    ap (missing (suc r) (coins_below row.depth share coins)) (leaf-deeper share (suc r) rows (drop share coins))
+leaf_deeper share r [] coins = refl
+leaf_deeper share r (row ∷ rows) coins =
+    ap (missing (suc r) (coins_below row.depth share coins)) (leaf_deeper share (suc r) rows (drop share coins))
     ∙ missing_deeper r (coins_below row.depth share coins) (leaf_row share (suc r) rows (drop share coins))
 
-log-deeper : (moves : ℕ → ℕ) (r : ℕ) (rows : List MapRow) → log_row moves (suc r) rows ≡ deeper (log_row moves r rows)
-log-deeper moves r [] = refl
-log-deeper moves r (row ∷ rows) =
-    ap (missing (suc r) (leb (length row.log + moves row.depth) row.span)) (log-deeper moves (suc r) rows)
+log_deeper : (moves : ℕ → ℕ) (r : ℕ) (rows : List MapRow) → log_row moves (suc r) rows ≡ deeper (log_row moves r rows)
+log_deeper moves r [] = refl
+log_deeper moves r (row ∷ rows) =
+    ap (missing (suc r) (leb (length row.log + moves row.depth) row.span)) (log_deeper moves (suc r) rows)
     ∙ missing_deeper r (leb (length row.log + moves row.depth) row.span) (log_row moves (suc r) rows)
 
 -- a refusal that names a deeper row is the refusal raised
-raised-row : (r : ℕ) → stopped (suc r) ≡ min 255 (stopped r + 1)
-raised-row r = omega arith
+raised_row : (r : ℕ) → stopped (suc r) ≡ min 255 (stopped r + 1)
+raised_row r = omega arith
 
 raised-named : (n r : ℕ) → naming n (Some (suc r)) ≡ option_map raised (naming n (Some r))
-raised-named n r = ap (λ x. Some (record { number = n; row = x })) (raised-row r)
+raised-named n r = ap (λ x. Some (record { number = n; row = x })) (raised_row r)
 
 -- The refusals by their tests alone. Below: from the new leaf on, from the logs on.
 abbrev from8 : Option ℕ → Option Card
@@ -143,8 +143,8 @@ at6a true true t7 q l6 coins logs full h =
     at6 true t7 q coins logs full ∙ ap (λ b. first_card (own6 true t7 (not q)) (from6 b coins logs full)) (sym (h refl))
 
 -- with fit coins the new leaf that goes below is not too wide
-narrow-pow : (D : ℕ) → D ≤ 12 → 2 ^ D ≤ 4096
-narrow-pow D le =
+narrow_pow : (D : ℕ) → D ≤ 12 → 2 ^ D ≤ 4096
+narrow_pow D le =
     elim (cases_eq D 12) [
       | inl e ↦ rw e (omega arith)
       | inr n ↦ let h : D < 12 = omega arith in let b = pow_below D 12 h in omega arith
@@ -155,7 +155,7 @@ first_coin D [] l e = absurd (let n : ⊥ = omega arith in n)
 first_coin D (m ∷ ms) l e = ltb-true m (2 ^ D) (and_parts (ltb m (2 ^ D)) (coins_below D 2 ms) e).0
 
 narrow_coin : (D : ℕ) (coins : List ℕ) → D ≤ 12 → 3 ≤ length coins → coins_below D 3 coins ≡ true → get_or coins 0 0 ≤ widest_leaf
-narrow_coin D coins le l e = let a = first_coin D coins l e in let b = narrow-pow D le in omega arith
+narrow_coin D coins le l e = let a = first_coin D coins l e in let b = narrow_pow D le in omega arith
 
 or-none : {X : Type 0} (o : Option X) → or_else o None ≡ o
 or-none None = refl
@@ -176,8 +176,8 @@ request_refusal_lem leaves rows unfit full n D span log queue coins depth shallo
     let leafs = leaf_row 3 0 rows (drop 3 coins) in
     let logs = log_row request_moves 0 rows in
     let l6 = leb (get_or coins 0 0) widest_leaf in
-    rw (leaf-named 3 1 rows (drop 3 coins), log-named request_moves 1 rows, leaf-deeper 3 0 rows (drop 3 coins), log-deeper request_moves 0 rows)
-    (rw (leaf-named 3 0 rows (drop 3 coins), log-named request_moves 0 rows, fit, depth, lt-ltb n (length leaves) number, eq-eqb (length (drop 3 coins)) (3 * length rows) rest, le-leb 3 (length coins) many)
+    rw (leaf_named 3 1 rows (drop 3 coins), log_named request_moves 1 rows, leaf_deeper 3 0 rows (drop 3 coins), log_deeper request_moves 0 rows)
+    (rw (leaf_named 3 0 rows (drop 3 coins), log_named request_moves 0 rows, fit, depth, lt-ltb n (length leaves) number, eq-eqb (length (drop 3 coins)) (3 * length rows) rest, le-leb 3 (length coins) many)
     (sym (at6a true t6 t7 q l6 leafs logs full (λ t. le-leb _ _ (narrow_coin D coins shallow many t)))))
 
 pub drain_refusal_lem : (leaves : List ℕ) (rows : List MapRow) (unfit : Option ℕ) (D span : ℕ) (log coins : List ℕ)
@@ -189,8 +189,8 @@ drain_refusal_lem leaves rows unfit D span log coins depth fit long =
     let rest : length (drop 1 coins) ≡ 1 * length rows = omega (arith, length-drop 1 coins) in
     let leafs = leaf_row 1 0 rows (drop 1 coins) in
     let logs = log_row drain_moves 0 rows in
-    rw (leaf-named 1 1 rows (drop 1 coins), log-named drain_moves 1 rows, leaf-deeper 1 0 rows (drop 1 coins), log-deeper drain_moves 0 rows)
-    (rw (leaf-named 1 0 rows (drop 1 coins), log-named drain_moves 0 rows, fit, depth, eq-eqb (length (drop 1 coins)) (1 * length rows) rest, le-leb 1 (length coins) many)
+    rw (leaf_named 1 1 rows (drop 1 coins), log_named drain_moves 1 rows, leaf_deeper 1 0 rows (drop 1 coins), log_deeper drain_moves 0 rows)
+    (rw (leaf_named 1 0 rows (drop 1 coins), log_named drain_moves 0 rows, fit, depth, eq-eqb (length (drop 1 coins)) (1 * length rows) rest, le-leb 1 (length coins) many)
     (sym (simp or-none at (at6 (coins_below D 1 coins) (leb (length log + drain_moves D) span) false leafs logs None))))
 
 -- a trial answers 1 exactly if a row is unfit
@@ -206,7 +206,7 @@ pub unfit_number : (rows : List MapRow) (unfit : Option ℕ) (coins : List ℕ) 
 unfit_number rows (Some r) coins c e = let n : c.number ≡ 1 = cc in rw n
 unfit_number rows None coins c e =
     number_of (eqb (length coins) (coins_per_drain * length rows)) (leaf_row 1 0 rows coins) (log_row drain_moves 0 rows) c
-    (rw (leaf-named 1 0 rows coins, log-named drain_moves 0 rows) at e)
+    (rw (leaf_named 1 0 rows coins, log_named drain_moves 0 rows) at e)
 
 -- what a map below answers to a trial with no coins, if it answers 1, is its unfit row
 pub unfit_raised : (fit : Bool) (rows : List MapRow) (unfit : Option ℕ) (coins : List ℕ) (c : Card)

@@ -52,5 +52,5 @@ module _ (xs : List Leaf) (share rows f r : ℕ) (e : f ≡ share) (h : r ≡ ro
   wrong_count wrong =
       rw (length_numbers xs, ne_eqb (length xs) (share * suc rows) (λ k. wrong (k ∙ sym count_is))) refl
 
-  pub right-count : length xs ≡ f * (r + 1) → None ≡ unless (eqb (length (leaf_numbers xs)) (share * suc rows)) (own 5)
-  right-count right = rw (length_numbers xs, eq-eqb (length xs) (share * suc rows) (right ∙ count_is)) refl
+  pub right_count : length xs ≡ f * (r + 1) → None ≡ unless (eqb (length (leaf_numbers xs)) (share * suc rows)) (own 5)
+  right_count right = rw (length_numbers xs, eq-eqb (length xs) (share * suc rows) (right ∙ count_is)) refl

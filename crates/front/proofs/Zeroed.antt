@@ -69,9 +69,9 @@ module _ (most D : ℕ) (buckets buckets' : List (List ℕ)) (q : Queue) (below 
   pub cleared_order : InOrder D below' (decoded_row buckets' q)
   cleared_order = rw (el, zero_row buckets buckets' q eb eq) (order_kept.cleared D (length below) (length buckets))
 
-  pub cleared-rows : (span span' : ℕ) (log log' : List ℕ) → span' ≡ span → log' ≡ []
+  pub cleared_rows : (span span' : ℕ) (log log' : List ℕ) → span' ≡ span → log' ≡ []
       → front_rows D below' span' log' rows' ≡ rows_zeroed (front_rows D below span log rows)
-  cleared-rows span span' log log' es e =
+  cleared_rows span span' log log' es e =
       ap (λ xs. front_rows D xs span' log' rows') el
       ∙ (ap (λ s. front_rows D (replicate (length below) 0) s log' rows') es
       ∙ (ap (λ xs. front_rows D (replicate (length below) 0) span xs rows') e

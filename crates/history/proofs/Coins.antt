@@ -206,9 +206,9 @@ moved_back R {k} {ds} {es} {cs} w =
     (λ r h. ap (row_given (numbers_in r (asked es)) (numbers_in r (asked ds))) (moved_column R r h w) ∙ row_back (row_of R r w))
 
 -- the shape stays
-pub replaced-shape : (L : ℕ → List ℕ) (ns : List (Option ℕ)) (cs : List (List ℕ)) → map length (replaced L ns cs) ≡ map length cs
-replaced-shape L [] cs = refl
-replaced-shape L (o ∷ ns) [] = refl
-replaced-shape L (None ∷ ns) (c ∷ cs) = ap (λ l. length c ∷ l) (replaced-shape (λ i. drop 1 (L i)) ns cs)
-replaced-shape L (Some n ∷ ns) (c ∷ cs) =
-    ap₂ ◌∷◌ (with_length (λ i. get_or (L i) 0 0) 0 c) (replaced-shape (λ i. drop 1 (L i)) ns cs)
+pub replaced_shape : (L : ℕ → List ℕ) (ns : List (Option ℕ)) (cs : List (List ℕ)) → map length (replaced L ns cs) ≡ map length cs
+replaced_shape L [] cs = refl
+replaced_shape L (o ∷ ns) [] = refl
+replaced_shape L (None ∷ ns) (c ∷ cs) = ap (λ l. length c ∷ l) (replaced_shape (λ i. drop 1 (L i)) ns cs)
+replaced_shape L (Some n ∷ ns) (c ∷ cs) =
+    ap₂ ◌∷◌ (with_length (λ i. get_or (L i) 0 0) 0 c) (replaced_shape (λ i. drop 1 (L i)) ns cs)

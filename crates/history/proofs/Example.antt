@@ -20,7 +20,7 @@ relabelling_case =
           record {
             alike = refl;
             turns = refl;
-            first-can = (
+            first_can = (
               λ _. ((refl, omega arith), one_row 1 0 0 (omega arith) (omega arith) (omega arith)),
               (
                 λ _. ((refl, omega arith), one_row 1 0 0 (omega arith) (omega arith) (omega arith)),

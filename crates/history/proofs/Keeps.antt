@@ -6,7 +6,7 @@ use Rattle.std.specs.List.{AllByRecursion as All}
 use Rattle.history.specs.Histories.{History, Deed, request, deeds, asked, coins_of, Leaves, request_share, new_leaf, numbers_in, leaves_in, latest}
 use Rattle.history.specs.Secrecy.{settled, given, row_given, with_leaves, replaced, all_below, requested_in, relabelled_for, SideBySide, SameShape, Words, RangeOf, EachTurn, InRange, OneToOneOnto, Relabelling, RelabellingIsOneToOne}
 use Rattle.history.proofs.Rows.{ever, Both, start, still, fresh, again, same_ever}
-use Rattle.history.proofs.Coins.{Paired, begun, both_rest, both_open, both_ask, both_drain, both_tear, swapped, reshaped, row_of, with_length, with_other, new_with, moved, moved_back, replaced-shape}
+use Rattle.history.proofs.Coins.{Paired, begun, both_rest, both_open, both_ask, both_drain, both_tear, swapped, reshaped, row_of, with_length, with_other, new_with, moved, moved_back, replaced_shape}
 use Rattle.history.proofs.Pairs.{paired}
 
 -- Q holds of each leaf that a request brought
@@ -57,8 +57,8 @@ given-all Q due (again {ms = ms} {ns = ns} {xs = xs} a b x p q w) h d = (
       (due_all Q due ns b (latest ms xs a) (λ e. latest-all Q w h.1 a p) d),
 )
 
-pub row-all : (Q : ℕ → Type 0) {ms ns : List (Option ℕ)} {xs : List ℕ} → Both ms ns xs → AskedAll Q ms xs → AskedAll Q ns (row_given ms ns xs)
-row-all Q {ms} {ns} {xs} w h = given-all Q (latest ms xs) w h (λ n e. latest-all Q w h n (same_ever w n ∙ e))
+pub row_all : (Q : ℕ → Type 0) {ms ns : List (Option ℕ)} {xs : List ℕ} → Both ms ns xs → AskedAll Q ms xs → AskedAll Q ns (row_given ms ns xs)
+row_all Q {ms} {ns} {xs} w h = given-all Q (latest ms xs) w h (λ n e. latest-all Q w h n (same_ever w n ∙ e))
 
 -- W holds of the coins of each turn; of a request that says Q r of the new leaf of each row r, and new leaves with Q may take their place
 module _ (R : ℕ) (W : Deed → List ℕ → Type 0) (Q : ℕ → ℕ → Type 0)
@@ -75,16 +75,16 @@ module _ (R : ℕ) (W : Deed → List ℕ → Type 0) (Q : ℕ → ℕ → Type 
   leaves_all r b (both_drain c w) h = leaves_all r b w h.1
   leaves_all r b (both_tear c w) h = leaves_all r b w h.1
 
-  replaced-all : {k : ℕ} {ds es : List Deed} {cs : List (List ℕ)} → Paired R k ds es cs → EachTurn W ds cs → (L : ℕ → List ℕ)
+  replaced_all : {k : ℕ} {ds es : List Deed} {cs : List (List ℕ)} → Paired R k ds es cs → EachTurn W ds cs → (L : ℕ → List ℕ)
       → ((r : ℕ) → r < R → AskedAll (Q r) (numbers_in r (asked es)) (L r)) → EachTurn W ds (replaced L (asked es) cs)
-  replaced-all begun h L d = tt
-  replaced-all (both_rest c w) h L d = (h.0, replaced-all w h.1 (λ i. drop 1 (L i)) d)
-  replaced-all (both_open {k = k} c l w) h L d =
-      (takes k c (λ i. get_or (L i) 0 0) l h.0 (λ r b. (d r b).0), replaced-all w h.1 (λ i. drop 1 (L i)) (λ r b. (d r b).1))
-  replaced-all (both_ask m n c p q l w) h L d =
-      (takes m c (λ i. get_or (L i) 0 0) l h.0 (λ r b. (d r b).0), replaced-all w h.1 (λ i. drop 1 (L i)) (λ r b. (d r b).1))
-  replaced-all (both_drain c w) h L d = (h.0, replaced-all w h.1 (λ i. drop 1 (L i)) d)
-  replaced-all (both_tear c w) h L d = (h.0, replaced-all w h.1 (λ i. drop 1 (L i)) d)
+  replaced_all begun h L d = tt
+  replaced_all (both_rest c w) h L d = (h.0, replaced_all w h.1 (λ i. drop 1 (L i)) d)
+  replaced_all (both_open {k = k} c l w) h L d =
+      (takes k c (λ i. get_or (L i) 0 0) l h.0 (λ r b. (d r b).0), replaced_all w h.1 (λ i. drop 1 (L i)) (λ r b. (d r b).1))
+  replaced_all (both_ask m n c p q l w) h L d =
+      (takes m c (λ i. get_or (L i) 0 0) l h.0 (λ r b. (d r b).0), replaced_all w h.1 (λ i. drop 1 (L i)) (λ r b. (d r b).1))
+  replaced_all (both_drain c w) h L d = (h.0, replaced_all w h.1 (λ i. drop 1 (L i)) d)
+  replaced_all (both_tear c w) h L d = (h.0, replaced_all w h.1 (λ i. drop 1 (L i)) d)
 
   across : {k : ℕ} {ds es : List Deed} {cs : List (List ℕ)} → Paired R k ds es cs → EachTurn W ds cs → EachTurn W es cs
   across begun h = tt
@@ -97,8 +97,8 @@ module _ (R : ℕ) (W : Deed → List ℕ → Type 0) (Q : ℕ → ℕ → Type 
   pub moved_all : {k : ℕ} {ds es : List Deed} {cs : List (List ℕ)} → Paired R k ds es cs → EachTurn W ds cs
       → EachTurn W ds (moved ds es cs)
   moved_all {k} {ds} {es} {cs} w h =
-      replaced-all w h (λ r. row_given (numbers_in r (asked ds)) (numbers_in r (asked es)) (leaves_in r cs))
-      (λ r b. row-all (Q r) (row_of R r w) (leaves_all r b w h))
+      replaced_all w h (λ r. row_given (numbers_in r (asked ds)) (numbers_in r (asked es)) (leaves_in r cs))
+      (λ r b. row_all (Q r) (row_of R r w) (leaves_all r b w h))
 
   -- and so does relabelling back
   pub moved_all_back : {k : ℕ} {ds es : List Deed} {cs : List (List ℕ)} → Paired R k ds es cs → EachTurn W ds cs
@@ -106,7 +106,7 @@ module _ (R : ℕ) (W : Deed → List ℕ → Type 0) (Q : ℕ → ℕ → Type 
   moved_all_back {k} {ds} {es} {cs} w h =
       let v = swapped R w in
       let u : EachTurn W es (moved es ds cs) = moved_all v (across w h) in
-      across (reshaped R v (moved es ds cs) (replaced-shape (λ r. row_given (numbers_in r (asked es)) (numbers_in r (asked ds)) (leaves_in r cs)) (asked ds) cs)) u
+      across (reshaped R v (moved es ds cs) (replaced_shape (λ r. row_given (numbers_in r (asked es)) (numbers_in r (asked ds)) (leaves_in r cs)) (asked ds) cs)) u
 
 -- words
 with_all : (P : ℕ → Type 0) (leaf : ℕ → ℕ) (i : ℕ) (c : List ℕ) → All P c
@@ -209,15 +209,15 @@ module _ (R : Type 0) (N : ℕ) (Ds : List ℕ) (h g : History R) (s : SideBySid
       → OneToOneOnto (λ cs. SameShape cs (coins_of h) × E cs) (moved (deeds h) (deeds g))
   with_more E b into out =
       bijective (λ cs. SameShape cs (coins_of h) × E cs) (moved (deeds h) (deeds g)) (moved (deeds g) (deeds h))
-      (λ cs p. (replaced-shape _ (requested_in g) cs ∙ p.0, into cs p.0 p.1))
-      (λ cs p. (replaced-shape _ (requested_in h) cs ∙ p.0, out cs p.0 p.1))
+      (λ cs p. (replaced_shape _ (requested_in g) cs ∙ p.0, into cs p.0 p.1))
+      (λ cs p. (replaced_shape _ (requested_in h) cs ∙ p.0, out cs p.0 p.1))
       (λ cs p. moved_back (length Ds) (paired R N Ds h g s b cs p.0))
       (λ cs p. moved_back (length Ds) (swapped (length Ds) (paired R N Ds h g s b cs p.0)))
 
   shape_only : all_below N (requested_in g) ≡ true → OneToOneOnto (λ cs. SameShape cs (coins_of h)) (moved (deeds h) (deeds g))
   shape_only b =
       bijective (λ cs. SameShape cs (coins_of h)) (moved (deeds h) (deeds g)) (moved (deeds g) (deeds h))
-      (λ cs p. replaced-shape _ (requested_in g) cs ∙ p) (λ cs p. replaced-shape _ (requested_in h) cs ∙ p)
+      (λ cs p. replaced_shape _ (requested_in g) cs ∙ p) (λ cs p. replaced_shape _ (requested_in h) cs ∙ p)
       (λ cs p. moved_back (length Ds) (paired R N Ds h g s b cs p))
       (λ cs p. moved_back (length Ds) (swapped (length Ds) (paired R N Ds h g s b cs p)))
 
@@ -227,14 +227,14 @@ module _ (R : Type 0) (N : ℕ) (Ds : List ℕ) (h g : History R) (s : SideBySid
       into : (cs : List (List ℕ)) → SameShape cs (coins_of h) → Words cs → Words (moved (deeds h) (deeds g) cs)
       into cs e p =
           let w = paired R N Ds h g s b cs e in
-          let sh : SameShape (moved (deeds h) (deeds g) cs) cs = replaced-shape _ (requested_in g) cs in
+          let sh : SameShape (moved (deeds h) (deeds g) cs) cs = replaced_shape _ (requested_in g) cs in
           words_out (deeds h) (moved (deeds h) (deeds g) cs) (coins_long (reshaped (length Ds) w (moved (deeds h) (deeds g) cs) sh))
           (moved_all (length Ds) wordy (λ r x. x < 2 ^ 32) (λ m n c q. q) (word_says (length Ds)) (word_takes (length Ds)) w (words_in (deeds h) cs p))
 
       out : (cs : List (List ℕ)) → SameShape cs (coins_of h) → Words cs → Words (moved (deeds g) (deeds h) cs)
       out cs e p =
           let w = paired R N Ds h g s b cs e in
-          let sh : SameShape (moved (deeds g) (deeds h) cs) cs = replaced-shape _ (requested_in h) cs in
+          let sh : SameShape (moved (deeds g) (deeds h) cs) cs = replaced_shape _ (requested_in h) cs in
           words_out (deeds h) (moved (deeds g) (deeds h) cs) (coins_long (reshaped (length Ds) w (moved (deeds g) (deeds h) cs) sh))
           (moved_all_back (length Ds) wordy (λ r x. x < 2 ^ 32) (λ m n c q. q) (word_says (length Ds)) (word_takes (length Ds)) w (words_in (deeds h) cs p))
 
@@ -248,7 +248,7 @@ module _ (R : Type 0) (N : ℕ) (Ds : List ℕ) (h g : History R) (s : SideBySid
   relabelling : Relabelling R N Ds h g
   relabelling =
       record {
-        all-coins = either (λ cs. SameShape cs (coins_of h)) shape_only;
+        all_coins = either (λ cs. SameShape cs (coins_of h)) shape_only;
         words = either (λ cs. SameShape cs (coins_of h) × Words cs) all_words;
         within_range = either (λ cs. SameShape cs (coins_of h) × InRange Ds (deeds h) cs) all_range;
       }

@@ -38,9 +38,9 @@ logs R r D (both_drain c w) L h (suc j) = logs R r D w (λ i. drop 1 (L i)) (λ 
 logs R r D (both_tear c w) L h zero = refl
 logs R r D (both_tear c w) L h (suc j) = logs R r D w (λ i. drop 1 (L i)) (λ i. h (suc i)) j
 
-pub moved-logs : (R r D : ℕ) → r < R → {k : ℕ} {ds es : List Deed} {cs : List (List ℕ)} → Paired R k ds es cs → (j : ℕ)
+pub moved_logs : (R r D : ℕ) → r < R → {k : ℕ} {ds es : List Deed} {cs : List (List ℕ)} → Paired R k ds es cs → (j : ℕ)
     → log_of D r (drop j ds) (drop j cs) ≡ log_of D r (drop j es) (drop j (moved ds es cs))
-moved-logs R r D b {k} {ds} {es} {cs} w =
+moved_logs R r D b {k} {ds} {es} {cs} w =
     logs R r D w (λ i. row_given (numbers_in i (asked ds)) (numbers_in i (asked es)) (leaves_in i cs))
     (λ j. same_shows (latest (numbers_in r (asked ds)) (leaves_in r cs)) (row_of R r w) j
     ∙ ap (λ xs. shows (numbers_in r (asked es)) xs j) (sym (moved_column R r b w)))
@@ -51,8 +51,8 @@ deeds-drop zero h = refl
 deeds-drop (suc j) [] = refl
 deeds-drop (suc j) (t ∷ h) = deeds-drop j h
 
-log-drop : {R : Type 0} (D r j : ℕ) (h : History R) → prescribed_log D r (drop j h) ≡ log_of D r (drop j (deeds h)) (drop j (coins_of h))
-log-drop D r j h = ap₂ (log_of D r) (deeds-drop j h) (sym (drop-map (λ t. t.coins) j h))
+log_drop : {R : Type 0} (D r j : ℕ) (h : History R) → prescribed_log D r (drop j h) ≡ log_of D r (drop j (deeds h)) (drop j (coins_of h))
+log_drop D r j h = ap₂ (log_of D r) (deeds-drop j h) (sym (drop-map (λ t. t.coins) j h))
 
 -- the accepted requests of a history that can be accepted are below N
 all_named : {R : Type 0} (N : ℕ) (Ds : List ℕ) (h : History R) → AllCan N Ds h → all_below N (requested_in h) ≡ true
@@ -73,9 +73,9 @@ logs_are_equal R N Ds h g s can e j r D b =
     let named = all_named N Ds g can in
     let w = paired R N Ds h g s named (coins_of h) refl in
     let cs : coins_of g ≡ moved (deeds h) (deeds g) (coins_of h) = e ∙ cond-true (all_below N (requested_in g)) _ (coins_of h) named in
-    log-drop D r j h
-    ∙ (moved-logs (length Ds) r D b w j
-    ∙ (ap (λ l. log_of D r (drop j (deeds g)) (drop j l)) (sym cs) ∙ sym (log-drop D r j g)))
+    log_drop D r j h
+    ∙ (moved_logs (length Ds) r D b w j
+    ∙ (ap (λ l. log_of D r (drop j (deeds g)) (drop j l)) (sym cs) ∙ sym (log_drop D r j g)))
 
 -- how long a log is
 log_long : (D r : ℕ) (ds : List Deed) (cs : List (List ℕ)) → length ds ≡ length cs → length (log_of D r ds cs) ≡ moves_since D ds
@@ -103,22 +103,22 @@ moves_step D true asks m n k l ds es e = ap (λ x. x + request_moves D) e
 moves_step D true drains m n k l ds es e = ap (λ x. x + drain_moves D) e
 moves_step D true tears m n k l ds es e = refl
 
-moves-alike : {R : Type 0} (D : ℕ) (h g : History R) → Alike (calls_of h) (calls_of g) → accepted_in h ≡ accepted_in g
+moves_alike : {R : Type 0} (D : ℕ) (h g : History R) → Alike (calls_of h) (calls_of g) → accepted_in h ≡ accepted_in g
     → moves_since D (deeds h) ≡ moves_since D (deeds g)
-moves-alike D [] [] a b = refl
-moves-alike D [] (u ∷ g) a b = absurd (let z : ◌≡◌ {A = ℕ} 0 1 = cc in omega arith)
-moves-alike D (t ∷ h) [] a b = absurd (let z : ◌≡◌ {A = ℕ} 0 1 = cc in omega arith)
-moves-alike D (t ∷ h) (u ∷ g) a b =
+moves_alike D [] [] a b = refl
+moves_alike D [] (u ∷ g) a b = absurd (let z : ◌≡◌ {A = ℕ} 0 1 = cc in omega arith)
+moves_alike D (t ∷ h) [] a b = absurd (let z : ◌≡◌ {A = ℕ} 0 1 = cc in omega arith)
+moves_alike D (t ∷ h) (u ∷ g) a b =
     let a' : Alike (calls_of h) (calls_of g) = cc in
     let b' : accepted_in h ≡ accepted_in g = cc in
     let s : sort t.call ≡ sort u.call = cc in
     let v : t.accepted ≡ u.accepted = cc in
-    moves_step D t.accepted (sort t.call) (named t.call) (named u.call) (opened h) (opened g) (deeds h) (deeds g) (moves-alike D h g a' b')
+    moves_step D t.accepted (sort t.call) (named t.call) (named u.call) (opened h) (opened g) (deeds h) (deeds g) (moves_alike D h g a' b')
     ∙ ap₂ (λ (x : Bool) (y : Sort). moves_since D (deed_of x y (named u.call) (opened g) ∷ deeds g)) v s
 
 pub counted : (R : Type 0) → Counted R
 counted R =
     record {
       entries = λ D r h. log_long D r (deeds h) (coins_of h) (deeds_long h);
-      alike = moves-alike;
+      alike = moves_alike;
     }

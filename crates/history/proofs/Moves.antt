@@ -5,7 +5,7 @@ use Rattle.std.proofs.lemmas.Bool.{cases_eq, cases_lt}
 use Rattle.history.specs.Histories.{History, Deed, row_number, deeds, asked, coins_of, request_share, new_leaf, numbers_in, leaves_in, latest}
 use Rattle.history.specs.Secrecy.{settled, given, row_given, with_leaves, replaced, all_below, requested_in, SideBySide, SameShape, at_turn, Asked, Requested, marks, origin, RowMoves, LeavesMove, LeavesOnlyMove}
 use Rattle.history.proofs.Rows.{Both, start, still, fresh, again, turned, row_back}
-use Rattle.history.proofs.Coins.{Paired, begun, both_rest, both_open, both_ask, both_drain, both_tear, row_of, with_other, with_length, moved, moved_column, replaced-shape}
+use Rattle.history.proofs.Coins.{Paired, begun, both_rest, both_open, both_ask, both_drain, both_tear, row_of, with_other, with_length, moved, moved_column, replaced_shape}
 use Rattle.history.proofs.Pairs.{paired}
 use Rattle.history.proofs.Turns.{at_last, at_before, at_past, at_map, asked_in, in_row, from_row}
 
@@ -66,11 +66,11 @@ module _ (f : ℕ → ℕ) (f0 : f 0 ≡ 0) where
   choose true y v u e = refl
   choose false y v u e = e
 
-  latest-map : {ms ns : List (Option ℕ)} {xs : List ℕ} → Both ms ns xs → (n : ℕ) → latest ms (map f xs) n ≡ f (latest ms xs n)
-  latest-map start n = sym f0
-  latest-map (still x w) n = latest-map w n
-  latest-map (fresh {ms = ms} {xs = xs} a x p q w) n = choose (eqb a n) x (latest ms xs n) (latest ms (map f xs) n) (latest-map w n)
-  latest-map (again {ms = ms} {xs = xs} a b x p q w) n = choose (eqb a n) x (latest ms xs n) (latest ms (map f xs) n) (latest-map w n)
+  latest_map : {ms ns : List (Option ℕ)} {xs : List ℕ} → Both ms ns xs → (n : ℕ) → latest ms (map f xs) n ≡ f (latest ms xs n)
+  latest_map start n = sym f0
+  latest_map (still x w) n = latest_map w n
+  latest_map (fresh {ms = ms} {xs = xs} a x p q w) n = choose (eqb a n) x (latest ms xs n) (latest ms (map f xs) n) (latest_map w n)
+  latest_map (again {ms = ms} {xs = xs} a b x p q w) n = choose (eqb a n) x (latest ms xs n) (latest ms (map f xs) n) (latest_map w n)
 
   due_map : (due due' : ℕ → ℕ) (b v v' : ℕ) → v' ≡ f v → ((n : ℕ) → due' n ≡ f (due n)) → (n : ℕ)
       → settled due' b v' n ≡ f (settled due b v n)
@@ -80,18 +80,18 @@ module _ (f : ℕ → ℕ) (f0 : f 0 ≡ 0) where
       go true = e
       go false = h n
 
-  given-map : {ms ns : List (Option ℕ)} {xs : List ℕ} → Both ms ns xs → (due due' : ℕ → ℕ) → ((n : ℕ) → due' n ≡ f (due n))
+  given_map : {ms ns : List (Option ℕ)} {xs : List ℕ} → Both ms ns xs → (due due' : ℕ → ℕ) → ((n : ℕ) → due' n ≡ f (due n))
       → given due' ms ns (map f xs) ≡ map f (given due ms ns xs)
-  given-map start due due' h = refl
-  given-map (still x w) due due' h = ap (λ l. f x ∷ l) (given-map w due due' h)
-  given-map (fresh {ms = ms} {xs = xs} a x p q w) due due' h =
+  given_map start due due' h = refl
+  given_map (still x w) due due' h = ap (λ l. f x ∷ l) (given_map w due due' h)
+  given_map (fresh {ms = ms} {xs = xs} a x p q w) due due' h =
       ap₂ ◌∷◌ (h a)
-      (given-map w (settled due a (latest ms xs a)) (settled due' a (latest ms (map f xs) a))
-      (due_map due due' a (latest ms xs a) (latest ms (map f xs) a) (latest-map w a) h))
-  given-map (again {ms = ms} {xs = xs} a b x p q w) due due' h =
+      (given_map w (settled due a (latest ms xs a)) (settled due' a (latest ms (map f xs) a))
+      (due_map due due' a (latest ms xs a) (latest ms (map f xs) a) (latest_map w a) h))
+  given_map (again {ms = ms} {xs = xs} a b x p q w) due due' h =
       ap₂ ◌∷◌ (h b)
-      (given-map w (settled due b (latest ms xs a)) (settled due' b (latest ms (map f xs) a))
-      (due_map due due' b (latest ms xs a) (latest ms (map f xs) a) (latest-map w a) h))
+      (given_map w (settled due b (latest ms xs a)) (settled due' b (latest ms (map f xs) a))
+      (due_map due due' b (latest ms xs a) (latest ms (map f xs) a) (latest_map w a) h))
 
 -- where the leaf of each turn comes from, plus 1
 abbrev origins : List (Option ℕ) → List (Option ℕ) → List ℕ
@@ -102,7 +102,7 @@ natural {ms} {ns} {xs} w =
     let e = marks-map ms xs (stamp_at xs) (first_long w) (λ t b. refl) in
     let v = stamped w in
     subst (λ ys. row_given ms ns ys ≡ map (stamp_at xs) (origins ms ns)) e
-    (given-map (stamp_at xs) refl v (latest ms (marks ms)) (latest ms (map (stamp_at xs) (marks ms))) (latest-map (stamp_at xs) refl v))
+    (given_map (stamp_at xs) refl v (latest ms (marks ms)) (latest ms (map (stamp_at xs) (marks ms))) (latest_map (stamp_at xs) refl v))
 
 natural_at : {ms ns : List (Option ℕ)} {xs : List ℕ} → Both ms ns xs → (t : ℕ)
     → at_turn 0 (row_given ms ns xs) t ≡ stamp_at xs (at_turn 0 (origins ms ns) t)
@@ -175,21 +175,21 @@ request_step o p ms ns t n l head ih h = ⊎_elim last before (cases_eq t (lengt
 pub same_long : {ms ns : List (Option ℕ)} {xs : List ℕ} → Both ms ns xs → length ms ≡ length ns
 same_long w = first_long w ∙ sym (second_long w)
 
-pub none-asks : (n : ℕ) (P : Type 0) → None ≡ Some n → P
-none-asks n P e = absurd (let z : ◌≡◌ {A = ℕ} 0 1 = cc in omega arith)
+pub none_asks : (n : ℕ) (P : Type 0) → None ≡ Some n → P
+none_asks n P e = absurd (let z : ◌≡◌ {A = ℕ} 0 1 = cc in omega arith)
 
-pub same-request : {ms ns : List (Option ℕ)} {xs : List ℕ} → Both ms ns xs → (t n : ℕ) → Asked ms t n → Requested ns t
-same-request start t n h = none-asks n (Requested [] t) h
-same-request (still {ms = ms} {ns = ns} x w) t n h =
-    request_step None None ms ns t n (same_long w) (λ e. none-asks n (Requested (None ∷ []) 0) e) (same-request w t n) h
-same-request (fresh {ms = ms} {ns = ns} a x p q w) t n h =
-    request_step (Some a) (Some a) ms ns t n (same_long w) (λ e. (a, refl)) (same-request w t n) h
-same-request (again {ms = ms} {ns = ns} a b x p q w) t n h =
-    request_step (Some a) (Some b) ms ns t n (same_long w) (λ e. (b, refl)) (same-request w t n) h
+pub same_request : {ms ns : List (Option ℕ)} {xs : List ℕ} → Both ms ns xs → (t n : ℕ) → Asked ms t n → Requested ns t
+same_request start t n h = none_asks n (Requested [] t) h
+same_request (still {ms = ms} {ns = ns} x w) t n h =
+    request_step None None ms ns t n (same_long w) (λ e. none_asks n (Requested (None ∷ []) 0) e) (same_request w t n) h
+same_request (fresh {ms = ms} {ns = ns} a x p q w) t n h =
+    request_step (Some a) (Some a) ms ns t n (same_long w) (λ e. (a, refl)) (same_request w t n) h
+same_request (again {ms = ms} {ns = ns} a b x p q w) t n h =
+    request_step (Some a) (Some b) ms ns t n (same_long w) (λ e. (b, refl)) (same_request w t n) h
 
 -- the origin of a request is a request
-origin-request : {ms ns : List (Option ℕ)} {xs : List ℕ} → Both ms ns xs → (t : ℕ) → Requested ms t → Requested ms (origin ms ns t)
-origin-request {ms} {ns} {xs} w t h = go (at_turn None ms (origin ms ns t)) refl
+origin_request : {ms ns : List (Option ℕ)} {xs : List ℕ} → Both ms ns xs → (t : ℕ) → Requested ms t → Requested ms (origin ms ns t)
+origin_request {ms} {ns} {xs} w t h = go (at_turn None ms (origin ms ns t)) refl
   where
     v : Both ns ms (given (latest ms xs) ms ns xs)
     v = turned (latest ms xs) w
@@ -222,7 +222,7 @@ origin-request {ms} {ns} {xs} w t h = go (at_turn None ms (origin ms ns t)) refl
     go : (o : Option ℕ) → at_turn None ms (origin ms ns t) ≡ o → Requested ms (origin ms ns t)
     go (Some n) e = (n, e)
     go None e =
-        none-asks h.0 (Requested ms (origin ms ns t)) (sym (subst (λ u. at_turn None ms u ≡ None) (same e) e) ∙ h.1)
+        none_asks h.0 (Requested ms (origin ms ns t)) (sym (subst (λ u. at_turn None ms u ≡ None) (same e) e) ∙ h.1)
 
 -- every coin that is no new leaf of a request stays
 abbrev Spared : ℕ → ℕ → Type 0
@@ -263,7 +263,7 @@ stay_step R i t o ms c d cs ds l k head ih h = ⊎_elim last before (cases_eq t 
 
 replaced_long : (L : ℕ → List ℕ) (ns : List (Option ℕ)) (cs : List (List ℕ)) → length (replaced L ns cs) ≡ length cs
 replaced_long L ns cs =
-    sym (length-map (replaced L ns cs) length) ∙ (ap length (replaced-shape L ns cs) ∙ length-map cs length)
+    sym (length-map (replaced L ns cs) length) ∙ (ap length (replaced_shape L ns cs) ∙ length-map cs length)
 
 asked_long : {R k : ℕ} {ds es : List Deed} {cs : List (List ℕ)} → Paired R k ds es cs → length (asked ds) ≡ length cs
 asked_long begun = refl
@@ -273,45 +273,45 @@ asked_long (both_ask m n c p q l w) = ap suc (asked_long w)
 asked_long (both_drain c w) = ap suc (asked_long w)
 asked_long (both_tear c w) = ap suc (asked_long w)
 
-replaced-stays : (R i t : ℕ) {k : ℕ} {ds es : List Deed} {cs : List (List ℕ)} → Paired R k ds es cs → (L : ℕ → List ℕ)
+replaced_stays : (R i t : ℕ) {k : ℕ} {ds es : List Deed} {cs : List (List ℕ)} → Paired R k ds es cs → (L : ℕ → List ℕ)
     → (Requested (asked ds) t → Spared R i) → get_or (at_turn [] (replaced L (asked es) cs) t) i 0 ≡ get_or (at_turn [] cs t) i 0
-replaced-stays R i t begun L h = refl
-replaced-stays R i t (both_rest {ds = ds} {es = es} {cs = cs} c w) L h =
+replaced_stays R i t begun L h = refl
+replaced_stays R i t (both_rest {ds = ds} {es = es} {cs = cs} c w) L h =
     let M : ℕ → List ℕ = λ j. drop 1 (L j) in
     stay_step R i t None (asked ds) c c cs (replaced M (asked es) cs) (asked_long w) (replaced_long M (asked es) cs) (λ _. refl)
-    (replaced-stays R i t w M) h
-replaced-stays R i t (both_open {k = k} {ds = ds} {es = es} {cs = cs} c l w) L h =
+    (replaced_stays R i t w M) h
+replaced_stays R i t (both_open {k = k} {ds = ds} {es = es} {cs = cs} c l w) L h =
     let M : ℕ → List ℕ = λ j. drop 1 (L j) in
     stay_step R i t (Some k) (asked ds) c (with_leaves (λ j. get_or (L j) 0 0) 0 c) cs (replaced M (asked es) cs) (asked_long w)
-    (replaced_long M (asked es) cs) (λ s. spared_with R i (λ j. get_or (L j) 0 0) c l (s k refl)) (replaced-stays R i t w M) h
-replaced-stays R i t (both_ask {ds = ds} {es = es} {cs = cs} m n c p q l w) L h =
+    (replaced_long M (asked es) cs) (λ s. spared_with R i (λ j. get_or (L j) 0 0) c l (s k refl)) (replaced_stays R i t w M) h
+replaced_stays R i t (both_ask {ds = ds} {es = es} {cs = cs} m n c p q l w) L h =
     let M : ℕ → List ℕ = λ j. drop 1 (L j) in
     stay_step R i t (Some m) (asked ds) c (with_leaves (λ j. get_or (L j) 0 0) 0 c) cs (replaced M (asked es) cs) (asked_long w)
-    (replaced_long M (asked es) cs) (λ s. spared_with R i (λ j. get_or (L j) 0 0) c l (s m refl)) (replaced-stays R i t w M) h
-replaced-stays R i t (both_drain {ds = ds} {es = es} {cs = cs} c w) L h =
+    (replaced_long M (asked es) cs) (λ s. spared_with R i (λ j. get_or (L j) 0 0) c l (s m refl)) (replaced_stays R i t w M) h
+replaced_stays R i t (both_drain {ds = ds} {es = es} {cs = cs} c w) L h =
     let M : ℕ → List ℕ = λ j. drop 1 (L j) in
     stay_step R i t None (asked ds) c c cs (replaced M (asked es) cs) (asked_long w) (replaced_long M (asked es) cs) (λ _. refl)
-    (replaced-stays R i t w M) h
-replaced-stays R i t (both_tear {ds = ds} {es = es} {cs = cs} c w) L h =
+    (replaced_stays R i t w M) h
+replaced_stays R i t (both_tear {ds = ds} {es = es} {cs = cs} c w) L h =
     let M : ℕ → List ℕ = λ j. drop 1 (L j) in
     stay_step R i t None (asked ds) c c cs (replaced M (asked es) cs) (asked_long w) (replaced_long M (asked es) cs) (λ _. refl)
-    (replaced-stays R i t w M) h
+    (replaced_stays R i t w M) h
 
 -- a row's new leaf at a turn
 pub leaf_at : (r : ℕ) (cs : List (List ℕ)) (t : ℕ) → new_leaf r (at_turn [] cs t) ≡ at_turn 0 (leaves_in r cs) t
 leaf_at r cs t = sym (at_map (new_leaf r) [] cs t)
 
 module _ (R : Type 0) (N : ℕ) (Ds : List ℕ) (h g : History R) (s : SideBySide R N Ds h g) where
-  moved-rows : all_below N (requested_in g) ≡ true → (r : ℕ) → r < length Ds → RowMoves (requested_in h) (coins_of h) (moved (deeds h) (deeds g)) r (origin (numbers_in r (requested_in h)) (numbers_in r (requested_in g)))
-  moved-rows b r l =
+  moved_rows : all_below N (requested_in g) ≡ true → (r : ℕ) → r < length Ds → RowMoves (requested_in h) (coins_of h) (moved (deeds h) (deeds g)) r (origin (numbers_in r (requested_in h)) (numbers_in r (requested_in g)))
+  moved_rows b r l =
       record {
         to = origin ns ms;
-        from_request = λ t q. from_row r (requested_in h) (origin ms ns t) (origin-request w t (asks t q));
-        to-request = λ t q. from_row r (requested_in h) (origin ns ms t) (
+        from_request = λ t q. from_row r (requested_in h) (origin ms ns t) (origin_request w t (asks t q));
+        to_request = λ t q. from_row r (requested_in h) (origin ns ms t) (
             let a = asks t q in
-            let c = same-request w t a.0 a.1 in
-            let d = origin-request v t c in
-            same-request v (origin ns ms t) d.0 d.1);
+            let c = same_request w t a.0 a.1 in
+            let d = origin_request v t c in
+            same_request v (origin ns ms t) d.0 d.1);
         to_from = λ t q. let e = (origin_of v t (here t q)).1 in let i : origin ns ms (origin ms ns t) ≡ t = ap (λ (n : ℕ). n - 1) e ∙ less t in i;
         from_to = λ t q. let e = (origin_of w t (there t q)).1 in let i : origin ms ns (origin ns ms t) ≡ t = ap (λ (n : ℕ). n - 1) e ∙ less t in i;
         moves = λ cs e t q.
@@ -357,12 +357,12 @@ module _ (R : Type 0) (N : ℕ) (Ds : List ℕ) (h g : History R) (s : SideBySid
       rows : (b : Bool) → all_below N (requested_in g) ≡ b → (r : ℕ) → r < length Ds
           → RowMoves (requested_in h) (coins_of h) (λ cs. cond b (moved (deeds h) (deeds g) cs) cs) r
           (λ t. cond b (origin (numbers_in r (requested_in h)) (numbers_in r (requested_in g)) t) t)
-      rows true e r l = moved-rows e r l
+      rows true e r l = moved_rows e r l
       rows false e r l =
           record {
             to = λ t. t;
             from_request = λ t q. q;
-            to-request = λ t q. q;
+            to_request = λ t q. q;
             to_from = λ t q. refl;
             from_to = λ t q. refl;
             moves = λ cs e t q. refl;
@@ -372,7 +372,7 @@ module _ (R : Type 0) (N : ℕ) (Ds : List ℕ) (h g : History R) (s : SideBySid
           → (Requested (requested_in h) t → (r : ℕ) → r < length Ds → i ≡ request_share * r → ⊥)
           → get_or (at_turn [] (cond b (moved (deeds h) (deeds g) cs) cs) t) i 0 ≡ get_or (at_turn [] cs t) i 0
       stays true e cs p t i q =
-          replaced-stays (length Ds) i t (paired R N Ds h g s e cs p)
+          replaced_stays (length Ds) i t (paired R N Ds h g s e cs p)
           (λ r. row_given (numbers_in r (requested_in h)) (numbers_in r (requested_in g)) (leaves_in r cs)) q
       stays false e cs p t i q = refl
 

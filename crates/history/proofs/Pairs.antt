@@ -50,17 +50,17 @@ module _ (R : Type 0) (N : ℕ) (Ds : List ℕ) where
       (coins_of h) ih.0 ih.1 can.0 below' in (
         subst (λ d. Paired (length Ds) (opened (t ∷ h)) (deeds (t ∷ h)) (d ∷ deeds g) (coins_of (t ∷ h))) (sym e) w.0,
         w.1,
-        opens-same u.accepted t.accepted (sort u.call) (sort t.call) (opened g) (opened h) v s ih.2,
+        opens_same u.accepted t.accepted (sort u.call) (sort t.call) (opened g) (opened h) v s ih.2,
       )
     where
       turn_same : (p q : Bool) (s z : Sort) (n k l : ℕ) → p ≡ q → s ≡ z → k ≡ l → deed_of p s n k ≡ deed_of q z n l
       turn_same p q s z n k l e f i = ap₂ (λ (x : Bool) (y : Sort). deed_of x y n k) e f ∙ ap (deed_of q z n) i
 
-      opens-same : (p q : Bool) (s z : Sort) (k l : ℕ) → p ≡ q → s ≡ z → k ≡ l → cond p (opened_by s k) k ≡ cond q (opened_by z l) l
-      opens-same p q s z k l e f i =
+      opens_same : (p q : Bool) (s z : Sort) (k l : ℕ) → p ≡ q → s ≡ z → k ≡ l → cond p (opened_by s k) k ≡ cond q (opened_by z l) l
+      opens_same p q s z k l e f i =
           ap₂ (λ (x : Bool) (y : Sort). cond x (opened_by y k) k) e f ∙ ap (λ (x : ℕ). cond q (opened_by z x) x) i
 
   -- with any coins of the same shape
   pub paired : (h g : History R) → SideBySide R N Ds h g → all_below N (requested_in g) ≡ true → (cs : List (List ℕ))
       → SameShape cs (coins_of h) → Paired (length Ds) (opened h) (deeds h) (deeds g) cs
-  paired h g s b cs e = reshaped (length Ds) (pair_all h g s.alike s.turns s.first-can b).0 cs e
+  paired h g s b cs e = reshaped (length Ds) (pair_all h g s.alike s.turns s.first_can b).0 cs e

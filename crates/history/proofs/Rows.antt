@@ -76,9 +76,9 @@ pub fresh_same : {ms ns : List (Option ℕ)} {xs : List ℕ} (due : ℕ → ℕ)
     → latest ms xs a ≡ latest ns (given due ms ns xs) a
 fresh_same {ms} {ns} {xs} due a p q w = never_latest ms xs a p ∙ sym (never_latest ns (given due ms ns xs) a q)
 
-pub again-same : {ms ns : List (Option ℕ)} {xs : List ℕ} (due : ℕ → ℕ) (a b : ℕ) → ever ns b ≡ true → Both ms ns xs
+pub again_same : {ms ns : List (Option ℕ)} {xs : List ℕ} (due : ℕ → ℕ) (a b : ℕ) → ever ns b ≡ true → Both ms ns xs
     → latest ms xs a ≡ latest ns (given (settled due b (latest ms xs a)) ms ns xs) b
-again-same {ms} {ns} {xs} due a b q w =
+again_same {ms} {ns} {xs} due a b q w =
     sym (due_shown (settled due b (latest ms xs a)) w b q ∙ settled_same due b (latest ms xs a))
 
 -- what the row shows j turns before the latest
@@ -96,7 +96,7 @@ same_shows due (still x w) zero = refl
 same_shows due (still x w) (suc j) = same_shows due w j
 same_shows due (fresh {ms = ms} {xs = xs} a x p q w) zero = fresh_same (settled due a (latest ms xs a)) a p q w
 same_shows due (fresh {ms = ms} {xs = xs} a x p q w) (suc j) = same_shows (settled due a (latest ms xs a)) w j
-same_shows due (again a b x p q w) zero = again-same due a b q w
+same_shows due (again a b x p q w) zero = again_same due a b q w
 same_shows due (again {ms = ms} {xs = xs} a b x p q w) (suc j) = same_shows (settled due b (latest ms xs a)) w j
 
 -- relabelling back
@@ -127,7 +127,7 @@ given_back due back (fresh {ms = ms} {ns = ns} {xs = xs} a x p q w) h =
 given_back due back (again {ms = ms} {ns = ns} {xs = xs} a b x p q w) h =
     let due' = settled due b (latest ms xs a) in
     let ys = given due' ms ns xs in
-    let s = again-same due a b q w in
+    let s = again_same due a b q w in
     ap₂ ◌∷◌ (back_head back ms xs a x h) (given_back due' (settled back a (latest ns ys b)) w (back_due back ms xs a x (latest ns ys b) s h))
 
 -- a row relabelled and relabelled back is itself

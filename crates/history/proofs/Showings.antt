@@ -4,10 +4,10 @@ use Rattle.std.proofs.lemmas.List.{length-map, ext_get_or}
 use Rattle.std.proofs.lemmas.Bool.{both_ways, eqb-true, eqb-false, eq-eqb, ne_eqb, cond-true, cond-false, cases_eq, cases_lt}
 use Rattle.history.specs.Histories.{History, deeds, coins_of, row_number, numbers_in, latest, new_leaf, request_share}
 use Rattle.history.specs.Secrecy.{settled, given, row_given, all_below, requested_in, relabelled_for, SideBySide, SameShape, at_turn, Asked, Requested, Showing, shown_at, kept_for, NextShowing, IsRelabelled, ByNextShowing, RelabelledByNextShowing}
-use Rattle.history.proofs.Rows.{ever, Both, start, still, fresh, again, same_ever, due_shown, fresh_same, again-same}
-use Rattle.history.proofs.Coins.{row_of, moved, moved_column, replaced-shape}
+use Rattle.history.proofs.Rows.{ever, Both, start, still, fresh, again, same_ever, due_shown, fresh_same, again_same}
+use Rattle.history.proofs.Coins.{row_of, moved, moved_column, replaced_shape}
 use Rattle.history.proofs.Turns.{at_last, at_before, at_past, asked_in, in_row}
-use Rattle.history.proofs.Moves.{same_long, first_long, second_long, given_long, none-asks, same-request, leaf_at, leaves_move}
+use Rattle.history.proofs.Moves.{same_long, first_long, second_long, given_long, none_asks, same_request, leaf_at, leaves_move}
 use Rattle.history.proofs.Pairs.{paired}
 
 -- what is asked at an earlier turn does not depend on the latest
@@ -21,9 +21,9 @@ at_head : (o : Option ℕ) (ms : List (Option ℕ)) (t n : ℕ) → t ≡ length
 at_head o ms t n e h = sym (at_last None o ms t e) ∙ h
 
 asked_ever : (ms : List (Option ℕ)) (t n : ℕ) → Asked ms t n → ever ms n ≡ true
-asked_ever [] t n h = none-asks n (false ≡ true) h
+asked_ever [] t n h = none_asks n (false ≡ true) h
 asked_ever (None ∷ ms) t n h =
-    asked_ever ms t n (earlier None ms t n (λ e. none-asks n ⊥ (at_head None ms t n e h)) h)
+    asked_ever ms t n (earlier None ms t n (λ e. none_asks n ⊥ (at_head None ms t n e h)) h)
 asked_ever (Some m ∷ ms) t n h = go (asked_ever ms t n) (cases_eq t (length ms))
   where
     step : (b : Bool) → ever ms n ≡ true → cond b true (ever ms n) ≡ true
@@ -39,10 +39,10 @@ asked_ever (Some m ∷ ms) t n h = go (asked_ever ms t n) (cases_eq t (length ms
 -- the latest leaf for n is that of the last turn that asks n
 latest_turn : (ms : List (Option ℕ)) (xs : List ℕ) (t n : ℕ) → length ms ≡ length xs → Asked ms t n
     → ((v : ℕ) → t < v → Asked ms v n → ⊥) → latest ms xs n ≡ at_turn 0 xs t
-latest_turn [] xs t n l h last = none-asks n (0 ≡ at_turn 0 xs t) h
+latest_turn [] xs t n l h last = none_asks n (0 ≡ at_turn 0 xs t) h
 latest_turn (o ∷ ms) [] t n l h last = absurd (let z : ⊥ = omega arith in z)
 latest_turn (None ∷ ms) (x ∷ xs) t n l h last =
-    let k : t ≡ length ms → ⊥ = λ e. none-asks n ⊥ (at_head None ms t n e h) in
+    let k : t ≡ length ms → ⊥ = λ e. none_asks n ⊥ (at_head None ms t n e h) in
     latest_turn ms xs t n (let q : length ms ≡ length xs = omega arith in q) (earlier None ms t n k h)
     (λ v b a. last v b (later None ms v n a))
     ∙ sym (at_before 0 x xs t (λ e. k (let q : t ≡ length ms = omega arith in q)))
@@ -77,26 +77,26 @@ turn_shows (Some m ∷ ms) (x ∷ xs) u = cond (eqb u (length ms)) (latest ms xs
 both_show : (u k l a b c d : ℕ) → k ≡ l → a ≡ b → c ≡ d → cond (eqb u k) a c ≡ cond (eqb u l) b d
 both_show u k l a b c d e f g = ap (λ n. cond (eqb u n) a c) e ∙ ap₂ (λ (x y : ℕ). cond (eqb u l) x y) f g
 
-same-turns : {ms ns : List (Option ℕ)} {xs : List ℕ} → (due : ℕ → ℕ) → Both ms ns xs → (u : ℕ)
+same_turns : {ms ns : List (Option ℕ)} {xs : List ℕ} → (due : ℕ → ℕ) → Both ms ns xs → (u : ℕ)
     → turn_shows ms xs u ≡ turn_shows ns (given due ms ns xs) u
-same-turns due start u = refl
-same-turns due (still x w) u = same-turns due w u
-same-turns due (fresh {ms = ms} {ns = ns} {xs = xs} a x p q w) u =
+same_turns due start u = refl
+same_turns due (still x w) u = same_turns due w u
+same_turns due (fresh {ms = ms} {ns = ns} {xs = xs} a x p q w) u =
     let due' = settled due a (latest ms xs a) in
     both_show u (length ms) (length ns) (latest ms xs a) (latest ns (given due' ms ns xs) a) (turn_shows ms xs u)
-    (turn_shows ns (given due' ms ns xs) u) (same_long w) (fresh_same due' a p q w) (same-turns due' w u)
-same-turns due (again {ms = ms} {ns = ns} {xs = xs} a b x p q w) u =
+    (turn_shows ns (given due' ms ns xs) u) (same_long w) (fresh_same due' a p q w) (same_turns due' w u)
+same_turns due (again {ms = ms} {ns = ns} {xs = xs} a b x p q w) u =
     let due' = settled due b (latest ms xs a) in
     both_show u (length ms) (length ns) (latest ms xs a) (latest ns (given due' ms ns xs) b) (turn_shows ms xs u)
-    (turn_shows ns (given due' ms ns xs) u) (same_long w) (again-same due a b q w) (same-turns due' w u)
+    (turn_shows ns (given due' ms ns xs) u) (same_long w) (again_same due a b q w) (same_turns due' w u)
 
 -- a leaf shown next at u is what the row shows at u
 shown_turn : (ms : List (Option ℕ)) (xs : List ℕ) (t u n : ℕ) → length ms ≡ length xs → t < u → Asked ms t n → Asked ms u n
     → ((v : ℕ) → t < v → v < u → Asked ms v n → ⊥) → turn_shows ms xs u ≡ at_turn 0 xs t
-shown_turn [] xs t u n l b h i last = none-asks n (0 ≡ at_turn 0 xs t) h
+shown_turn [] xs t u n l b h i last = none_asks n (0 ≡ at_turn 0 xs t) h
 shown_turn (o ∷ ms) [] t u n l b h i last = absurd (let z : ⊥ = omega arith in z)
 shown_turn (None ∷ ms) (x ∷ xs) t u n l b h i last =
-    let k : u ≡ length ms → ⊥ = λ e. none-asks n ⊥ (at_head None ms u n e i) in
+    let k : u ≡ length ms → ⊥ = λ e. none_asks n ⊥ (at_head None ms u n e i) in
     let i' = earlier None ms u n k i in
     let c = asked_in ms u n i' in
     let j : t ≡ length ms → ⊥ = λ e. omega arith in
@@ -129,14 +129,14 @@ shown_turn (Some m ∷ ms) (x ∷ xs) t u n l b h i last =
         ∙ (ih (earlier (Some m) ms t n j h) i' ∙ sym (at_before 0 x xs t (λ z. j (let y : t ≡ length ms = omega arith in y))))
 
 -- the same next showing, the same leaf
-same-leaf : {ms ns : List (Option ℕ)} {xs : List ℕ} → Both ms ns xs → (t u : ℕ) (s : Showing) → NextShowing ns t s → NextShowing ms u s
+same_leaf : {ms ns : List (Option ℕ)} {xs : List ℕ} → Both ms ns xs → (t u : ℕ) (s : Showing) → NextShowing ns t s → NextShowing ms u s
     → at_turn 0 (row_given ms ns xs) t ≡ at_turn 0 xs u
-same-leaf {ms} {ns} {xs} w t u (shown_at v) p q =
+same_leaf {ms} {ns} {xs} w t u (shown_at v) p q =
     let l : length ns ≡ length (row_given ms ns xs) = second_long w ∙ sym (given_long (latest ms xs) w) in
     sym (shown_turn ns (row_given ms ns xs) t v p.1.0 l p.0 p.1.1 p.1.2 p.1.3)
-    ∙ (sym (same-turns (latest ms xs) w v)
+    ∙ (sym (same_turns (latest ms xs) w v)
     ∙ shown_turn ms xs u v q.1.0 (first_long w) q.0 q.1.1 q.1.2 q.1.3)
-same-leaf {ms} {ns} {xs} w t u (kept_for n) p q =
+same_leaf {ms} {ns} {xs} w t u (kept_for n) p q =
     let l : length ns ≡ length (row_given ms ns xs) = second_long w ∙ sym (given_long (latest ms xs) w) in
     sym (latest_turn ns (row_given ms ns xs) t n l p.0 p.1)
     ∙ (due_shown (latest ms xs) w n (asked_ever ns t n p.0) ∙ latest_turn ms xs u n (first_long w) q.0 q.1)
@@ -156,9 +156,9 @@ lift_shown o ms t u p =
     )
 
 -- the last turn that asks n becomes a showing at the latest turn, which asks n again
-shown-last : (ms : List (Option ℕ)) (t n : ℕ) → Asked ms t n → ((v : ℕ) → t < v → Asked ms v n → ⊥)
+shown_last : (ms : List (Option ℕ)) (t n : ℕ) → Asked ms t n → ((v : ℕ) → t < v → Asked ms v n → ⊥)
     → NextShowing (Some n ∷ ms) t (shown_at (length ms))
-shown-last ms t n a last = (
+shown_last ms t n a last = (
   asked_in ms t n a,
   (
     n,
@@ -175,17 +175,17 @@ kept_more o ms t n k a last = (later o ms t n a, λ v c b. ⊎_elim (λ e. k (at
 -- every request has a next showing
 next_step : (o : Option ℕ) (ms : List (Option ℕ)) (t : ℕ) (s : Showing) → NextShowing ms t s → (z : Showing) × NextShowing (o ∷ ms) t z
 next_step o ms t (shown_at u) p = (shown_at u, lift_shown o ms t u p)
-next_step None ms t (kept_for n) p = (kept_for n, kept_more None ms t n (λ e. none-asks n ⊥ e) p.0 p.1)
+next_step None ms t (kept_for n) p = (kept_for n, kept_more None ms t n (λ e. none_asks n ⊥ e) p.0 p.1)
 next_step (Some m) ms t (kept_for n) p = go (cases_eq m n)
   where
     go : (m ≡ n) ⊎ (m ≡ n → ⊥) → (z : Showing) × NextShowing (Some m ∷ ms) t z
     go c =
         ⊎_elim
-        (λ e. (shown_at (length ms), subst (λ k. NextShowing (Some k ∷ ms) t (shown_at (length ms))) (sym e) (shown-last ms t n p.0 p.1)))
+        (λ e. (shown_at (length ms), subst (λ k. NextShowing (Some k ∷ ms) t (shown_at (length ms))) (sym e) (shown_last ms t n p.0 p.1)))
         (λ k. (kept_for n, kept_more (Some m) ms t n (λ e. k (let q : m ≡ n = cc in q)) p.0 p.1)) c
 
 next_of : (ms : List (Option ℕ)) (t n : ℕ) → Asked ms t n → (s : Showing) × NextShowing ms t s
-next_of [] t n h = none-asks n ((s : Showing) × NextShowing [] t s) h
+next_of [] t n h = none_asks n ((s : Showing) × NextShowing [] t s) h
 next_of (o ∷ ms) t n h = ⊎_elim here (before (next_of ms t n)) (cases_eq t (length ms))
   where
     here : t ≡ length ms → (s : Showing) × NextShowing (o ∷ ms) t s
@@ -197,7 +197,7 @@ next_of (o ∷ ms) t n h = ⊎_elim here (before (next_of ms t n)) (cases_eq t (
 -- the last turn that asks n
 last_turn : (ms : List (Option ℕ)) (n : ℕ) → ever ms n ≡ true → (u : ℕ) × NextShowing ms u (kept_for n)
 last_turn [] n h = absurd (both_ways false refl h)
-last_turn (None ∷ ms) n h = let q = last_turn ms n h in (q.0, kept_more None ms q.0 n (λ e. none-asks n ⊥ e) q.1.0 q.1.1)
+last_turn (None ∷ ms) n h = let q = last_turn ms n h in (q.0, kept_more None ms q.0 n (λ e. none_asks n ⊥ e) q.1.0 q.1.1)
 last_turn (Some m ∷ ms) n h = go (eqb m n) refl h (last_turn ms n)
   where
     go : (b : Bool) → eqb m n ≡ b → cond b true (ever ms n) ≡ true → (ever ms n ≡ true → (u : ℕ) × NextShowing ms u (kept_for n))
@@ -216,9 +216,9 @@ last_turn (Some m ∷ ms) n h = go (eqb m n) refl h (last_turn ms n)
 -- a turn at which the second shows a leaf is one at which the first does
 first_shows : {ms ns : List (Option ℕ)} {xs : List ℕ} → Both ms ns xs → (t u n : ℕ) → t < u → Asked ns t n → Asked ns u n
     → (v : ℕ) × NextShowing ms v (shown_at u)
-first_shows start t u n b h i = none-asks n ((v : ℕ) × NextShowing [] v (shown_at u)) h
+first_shows start t u n b h i = none_asks n ((v : ℕ) × NextShowing [] v (shown_at u)) h
 first_shows (still {ms = ms} {ns = ns} x w) t u n b h i =
-    let k : u ≡ length ns → ⊥ = λ e. none-asks n ⊥ (at_head None ns u n e i) in
+    let k : u ≡ length ns → ⊥ = λ e. none_asks n ⊥ (at_head None ns u n e i) in
     let i' = earlier None ns u n k i in
     let c = asked_in ns u n i' in
     let q = first_shows w t u n b (earlier None ns t n (λ e. omega arith) h) i' in
@@ -244,7 +244,7 @@ first_shows (again {ms = ms} {ns = ns} a d x p r w) t u n b h i = ⊎_elim here 
     here : u ≡ length ns → (v : ℕ) × NextShowing (Some a ∷ ms) v (shown_at u)
     here e =
         let q = last_turn ms a p in
-        (q.0, subst (λ k. NextShowing (Some a ∷ ms) q.0 (shown_at k)) (same_long w ∙ sym e) (shown-last ms q.0 a q.1.0 q.1.1))
+        (q.0, subst (λ k. NextShowing (Some a ∷ ms) q.0 (shown_at k)) (same_long w ∙ sym e) (shown_last ms q.0 a q.1.0 q.1.1))
 
     before : (Asked ns t n → Asked ns u n → (v : ℕ) × NextShowing ms v (shown_at u)) → (u ≡ length ns → ⊥)
         → (v : ℕ) × NextShowing (Some a ∷ ms) v (shown_at u)
@@ -261,11 +261,11 @@ same_showing w t (shown_at u) p = first_shows w t u p.1.0 p.0 p.1.1 p.1.2
 same_showing {ms} {ns} w t (kept_for n) p = last_turn ms n (same_ever w n ∙ asked_ever ns t n p.0)
 
 -- coins that agree at every turn and place are the same
-same-coins : (ys zs : List (List ℕ)) → SameShape ys zs → ((t i : ℕ) → get_or (at_turn [] ys t) i 0 ≡ get_or (at_turn [] zs t) i 0) → ys ≡ zs
-same-coins [] [] l h = refl
-same-coins [] (z ∷ zs) l h = absurd (let e : ◌≡◌ {A = ℕ} 0 1 = cc in omega arith)
-same-coins (y ∷ ys) [] l h = absurd (let e : ◌≡◌ {A = ℕ} 0 1 = cc in omega arith)
-same-coins (y ∷ ys) (z ∷ zs) l h = ap₂ ◌∷◌ head (same-coins ys zs shape rest)
+same_coins : (ys zs : List (List ℕ)) → SameShape ys zs → ((t i : ℕ) → get_or (at_turn [] ys t) i 0 ≡ get_or (at_turn [] zs t) i 0) → ys ≡ zs
+same_coins [] [] l h = refl
+same_coins [] (z ∷ zs) l h = absurd (let e : ◌≡◌ {A = ℕ} 0 1 = cc in omega arith)
+same_coins (y ∷ ys) [] l h = absurd (let e : ◌≡◌ {A = ℕ} 0 1 = cc in omega arith)
+same_coins (y ∷ ys) (z ∷ zs) l h = ap₂ ◌∷◌ head (same_coins ys zs shape rest)
   where
     shape : SameShape ys zs
     shape = cc
@@ -296,7 +296,7 @@ module _ (R : Type 0) (N : ℕ) (Ds : List ℕ) (h g : History R) (s : SideBySid
       → (z : Showing) × NextShowing (numbers_in r (requested_in g)) t z × ((u : ℕ) × NextShowing (numbers_in r (requested_in h)) u z)
   occurs b r t l q =
       let w = row_of (length Ds) r (paired R N Ds h g s b (coins_of h) refl) in
-      let a = same-request w t (row_number r q.0) (in_row r (requested_in h) t q.0 q.1) in
+      let a = same_request w t (row_number r q.0) (in_row r (requested_in h) t q.0 q.1) in
       let n = next_of (numbers_in r (requested_in g)) t a.0 a.1 in
       (n.0, n.1, same_showing w t n.0 n.1)
 
@@ -306,13 +306,13 @@ module _ (R : Type 0) (N : ℕ) (Ds : List ℕ) (h g : History R) (s : SideBySid
       let is : relabelled_for N h g cs ≡ moved (deeds h) (deeds g) cs =
       cond-true (all_below N (requested_in g)) (moved (deeds h) (deeds g) cs) cs b in
       record {
-        shape = ap (map length) is ∙ replaced-shape _ (requested_in g) cs;
+        shape = ap (map length) is ∙ replaced_shape _ (requested_in g) cs;
         leaves = λ r t u z l p q.
             let w = paired R N Ds h g s b cs e in
             ap (λ c. new_leaf r (at_turn [] c t)) is
             ∙ (leaf_at r (moved (deeds h) (deeds g) cs) t
             ∙ (ap (λ c. at_turn 0 c t) (moved_column (length Ds) r l w)
-            ∙ (same-leaf (row_of (length Ds) r w) t u z p q ∙ sym (leaf_at r cs u))));
+            ∙ (same_leaf (row_of (length Ds) r w) t u z p q ∙ sym (leaf_at r cs u))));
         stays = λ t i q. (leaves_move R N Ds h g s).stays cs e t i q;
       }
 
@@ -337,7 +337,7 @@ module _ (R : Type 0) (N : ℕ) (Ds : List ℕ) (h g : History R) (s : SideBySid
           get_at l j = get_or (at_turn [] l t) j 0
 
       go : (o : Option ℕ) → at_turn None (requested_in h) t ≡ o → get_or (at_turn [] ys t) i 0 ≡ get_or (at_turn [] zs t) i 0
-      go None e = both_stay (λ a. none-asks a.0 ((r : ℕ) → r < length Ds → i ≡ request_share * r → ⊥) (sym e ∙ a.1))
+      go None e = both_stay (λ a. none_asks a.0 ((r : ℕ) → r < length Ds → i ≡ request_share * r → ⊥) (sym e ∙ a.1))
       go (Some n) e = ⊎_elim
           (λ c. ⊎_elim (λ l. new (i / request_share) l (let q : i ≡ request_share * (i / request_share) = omega arith in q) (n, e))
           (λ l. both_stay (λ a r k j. let z : ⊥ = omega arith in z)) (cases_lt (i / request_share) (length Ds)))
@@ -350,7 +350,7 @@ module _ (R : Type 0) (N : ℕ) (Ds : List ℕ) (h g : History R) (s : SideBySid
         they_are = they_are;
         no_others = λ b cs ys e p.
             let q = they_are b cs e in
-            same-coins ys (relabelled_for N h g cs) (p.shape ∙ sym q.shape) (agree b cs ys (relabelled_for N h g cs) p q);
+            same_coins ys (relabelled_for N h g cs) (p.shape ∙ sym q.shape) (agree b cs ys (relabelled_for N h g cs) p q);
         otherwise = λ b cs. cond-false (all_below N (requested_in g)) (moved (deeds h) (deeds g) cs) cs b;
       }
 

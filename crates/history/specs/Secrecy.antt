@@ -39,7 +39,7 @@ requested_in h = asked (deeds h)
 pub record SideBySide (R : Type 0) (N : ℕ) (Ds : List ℕ) (h g : History R) : Type 0 where
   pub alike : Alike (calls_of h) (calls_of g)
   pub turns : accepted_in h ≡ accepted_in g
-  pub first-can : AllCan N Ds h
+  pub first_can : AllCan N Ds h
 
 -- as many entries for each call
 abbrev pub SameShape : List (List ℕ) → List (List ℕ) → Type 0
@@ -136,7 +136,7 @@ source N r ms ns t = cond (all_below N ns) (origin (numbers_in r ms) (numbers_in
 pub record RowMoves (ms : List (Option ℕ)) (shape : List (List ℕ)) (f : List (List ℕ) → List (List ℕ)) (r : ℕ) (from : ℕ → ℕ) : Type 0 where
   pub to : ℕ → ℕ
   pub from_request : (t : ℕ) → Requested ms t → Requested ms (from t)
-  pub to-request : (t : ℕ) → Requested ms t → Requested ms (to t)
+  pub to_request : (t : ℕ) → Requested ms t → Requested ms (to t)
   pub to_from : (t : ℕ) → Requested ms t → to (from t) ≡ t
   pub from_to : (t : ℕ) → Requested ms t → from (to t) ≡ t
   pub moves : (cs : List (List ℕ)) → SameShape cs shape → (t : ℕ) → Requested ms t
@@ -181,7 +181,7 @@ pub record OneToOneOnto (P : List (List ℕ) → Type 0) (f : List (List ℕ) �
 
 -- One-to-one and onto: on all coins of the same shape, among those that are words, and among those below 2 ^ D of their row
 pub record Relabelling (R : Type 0) (N : ℕ) (Ds : List ℕ) (h g : History R) : Type 0 where
-  pub all-coins : OneToOneOnto (λ cs. SameShape cs (coins_of h)) (relabelled_for N h g)
+  pub all_coins : OneToOneOnto (λ cs. SameShape cs (coins_of h)) (relabelled_for N h g)
   pub words : OneToOneOnto (λ cs. SameShape cs (coins_of h) × Words cs) (relabelled_for N h g)
   pub within_range : OneToOneOnto (λ cs. SameShape cs (coins_of h) × InRange Ds (deeds h) cs) (relabelled_for N h g)
 

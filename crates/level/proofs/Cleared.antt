@@ -61,32 +61,32 @@ module _ (D : ℕ) (buckets buckets' : List (List ℕ)) (q : Queue) (below below
   pub cleared_unfit : u' ≡ u
   cleared_unfit = same_u D (ap length eb ∙ length-replicate (length buckets) (replicate 40 0)) long (ap length er ∙ zeroed_long rows) eu
 
-  holds-none : (m : ℕ) → content m (decoded_row buckets' q) ≡ None
-  holds-none m = ap (content m) (zero_row buckets buckets' q eb eq) ∙ order_kept.cleared-holds m (length buckets)
+  holds_none : (m : ℕ) → content m (decoded_row buckets' q) ≡ None
+  holds_none m = ap (content m) (zero_row buckets buckets' q eb eq) ∙ order_kept.cleared_holds m (length buckets)
 
-  pub cleared-leaves : level_leaves u' (decoded_row buckets' q) (length below') ≡ replicate (level_length u (length below)) 0
-  cleared-leaves =
-      zero_leaves u' (decoded_row buckets' q) (length below') holds-none
+  pub cleared_leaves : level_leaves u' (decoded_row buckets' q) (length below') ≡ replicate (level_length u (length below)) 0
+  cleared_leaves =
+      zero_leaves u' (decoded_row buckets' q) (length below') holds_none
       ∙ (ap (λ o. replicate (level_length o (length below')) 0) cleared_unfit ∙ ap (λ n. replicate (level_length u n) 0) long)
 
-  pub cleared-again : (row : Row)
+  pub cleared_again : (row : Row)
       → level_leaves u' (decoded_row buckets' q) (length below') ≡ replicate (length (level_leaves u row (length below))) 0
-  cleared-again row = cleared-leaves ∙ ap (λ n. replicate n 0) (sym (level_long u row (length below)))
+  cleared_again row = cleared_leaves ∙ ap (λ n. replicate n 0) (sym (level_long u row (length below)))
 
   pub cleared_order : InOrder D below' (decoded_row buckets' q)
   cleared_order =
       rw (el, zero_row buckets buckets' q eb eq) (order_kept.cleared D (length below) (length buckets))
 
-  pub cleared-rows : (span span' : ℕ) (log log' : List ℕ) → span' ≡ span → log' ≡ []
+  pub cleared_rows : (span span' : ℕ) (log log' : List ℕ) → span' ≡ span → log' ≡ []
       → level_rows D below' span' log' rows' ≡ rows_zeroed (level_rows D below span log rows)
-  cleared-rows span span' log log' es e =
+  cleared_rows span span' log log' es e =
       ap (λ xs. level_rows D xs span' log' rows') el
       ∙ (ap (λ s. level_rows D (replicate (length below) 0) s log' rows') es
       ∙ (ap (λ xs. level_rows D (replicate (length below) 0) span xs rows') e
       ∙ ap (level_rows D (replicate (length below) 0) span []) er))
 
-  pub cleared-full : (full : Option ℕ) → full ≡ None → level_full (queued q) full ≡ None
-  cleared-full full e = ap (λ xs. level_full xs full) eq ∙ ap (level_full []) e
+  pub cleared_full : (full : Option ℕ) → full ≡ None → level_full (queued q) full ≡ None
+  cleared_full full e = ap (λ xs. level_full xs full) eq ∙ ap (level_full []) e
 
 -- a torn-off level
 module _ (D : ℕ) (buckets buckets' : List (List ℕ)) (q : Queue) (below below' : List ℕ) (rows rows' : List MapRow)

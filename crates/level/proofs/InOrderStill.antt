@@ -52,7 +52,7 @@ module _ (D : ℕ) (below below' : List ℕ) (rows rows' : List MapRow) (before 
   within_range : shown % 2 ^ D ≡ old
   within_range =
       ap (λ m. m % 2 ^ D) lower.shown
-      ∙ mod-eq_of_lt (All-get_or (λ m. m < 2 ^ D) below j 0 l_page o.leaves-fit)
+      ∙ mod-eq_of_lt (All-get_or (λ m. m < 2 ^ D) below j 0 l_page o.leaves_fit)
 
   first : FirstHalf D below j (get_or coins 0 0) before
   first = order_kept.first_half_lem D below j (get_or coins 0 0) before o l_page fits
@@ -69,13 +69,13 @@ module _ (D : ℕ) (below below' : List ℕ) (rows rows' : List MapRow) (before 
       done.row
       ∙ ap (λ m. second_half D (Some done.page) (get_or coins 1 0 ∷ get_or coins 2 0 ∷ []) (fetched D j m before)) within_range
 
-  page-found : words_found (found D j (shown % 2 ^ D) before) ≡ content j before
-  page-found = ap (λ m. words_found (found D j m before)) within_range ∙ ap words_found first.answer
+  page_found : words_found (found D j (shown % 2 ^ D) before) ≡ content j before
+  page_found = ap (λ m. words_found (found D j m before)) within_range ∙ ap words_found first.answer
 
   holds : content j after ≡ Some (page_with (page_words (content j before)) i new)
   holds =
       ap (content j) became ∙ second.holds ∙ ap Some done.words
-      ∙ ap (λ ws. Some (page_with (page_words ws) i new)) page-found
+      ∙ ap (λ ws. Some (page_with (page_words ws) i new)) page_found
 
   same : (m : ℕ) → (m ≡ j → ⊥) → content m after ≡ content m before
   same m n = ap (content m) became ∙ second.same m n ∙ first.same m n
@@ -91,8 +91,8 @@ module _ (D : ℕ) (below below' : List ℕ) (rows rows' : List MapRow) (before 
             ap (λ xs. level_rows D xs span log' rows') lower.sets_leaf
             ∙ ap (λ xs. level_rows D (set below j (get_or coins 0 0)) span xs rows') done.entries
             ∙ ap (λ m. level_rows D (set below j (get_or coins 0 0)) span (log ++ request_entries D m (get_or coins 1 0 ∷ get_or coins 2 0 ∷ [])) rows') within_range
-            ∙ ap (level_rows D (set below j (get_or coins 0 0)) span (log ++ request_entries D old (get_or coins 1 0 ∷ get_or coins 2 0 ∷ []))) lower.rows-asked;
-        answer = ap (λ ws. get_or (page_words ws) (i % 8) 0) page-found ∙ sym (leaf_in-page before (length below) i l);
+            ∙ ap (level_rows D (set below j (get_or coins 0 0)) span (log ++ request_entries D old (get_or coins 1 0 ∷ get_or coins 2 0 ∷ []))) lower.rows_asked;
+        answer = ap (λ ws. get_or (page_words ws) (i % 8) 0) page_found ∙ sym (leaf_in-page before (length below) i l);
       }
 
 -- what a level in order is after a drain
@@ -111,7 +111,7 @@ drain_in_order D below below' rows rows' before after span log log' coins o lowe
       leaves =
           ap (λ xs. pages_from after 0 (length xs)) lower.leaves_stay
           ∙ same_pages before after (length below)
-          (λ m. ap (content m) done.row ∙ order_kept.drain-holds D (get_or coins 0 0) below before o m);
+          (λ m. ap (content m) done.row ∙ order_kept.drain_holds D (get_or coins 0 0) below before o m);
       drained =
           ap (λ xs. level_rows D xs span log' rows') lower.leaves_stay
           ∙ ap (λ xs. level_rows D below span xs rows') done.entries

@@ -37,7 +37,7 @@ module _ (D count count' span span' : ℕ) (below below' : List ℕ) (rows rows'
   same_unfit : u' ≡ u
   same_unfit =
       ap (λ c. level_unfit (own_fit D c (length below') (length rows')) unfit') ec
-      ∙ (ap (λ n. level_unfit (own_fit D count n (length rows')) unfit') frame.length-stays
+      ∙ (ap (λ n. level_unfit (own_fit D count n (length rows')) unfit') frame.length_stays
       ∙ (ap (λ k. level_unfit (own_fit D count (length below) k) unfit') few_rows
       ∙ ap (λ o. level_unfit (own_fit D count (length below) (length rows)) o) frame.unfit_stays))
 
@@ -45,11 +45,11 @@ module _ (D count count' span span' : ℕ) (below below' : List ℕ) (rows rows'
       (level_rows D below span log rows) (level_rows D below' span' log' rows') u u'
   level_frame =
       record {
-        length-stays =
+        length_stays =
             ap (λ o. length (level_leaves o after (length below'))) same_unfit
-            ∙ (ap (λ n. length (level_leaves u after n)) frame.length-stays ∙ same_length u before after (length below));
+            ∙ (ap (λ n. length (level_leaves u after n)) frame.length_stays ∙ same_length u before after (length below));
         rows_stay =
-            ap (λ n. (D, n, span') ∷ fixed_of rows') frame.length-stays
+            ap (λ n. (D, n, span') ∷ fixed_of rows') frame.length_stays
             ∙ (ap (λ s. (D, length below, s) ∷ fixed_of rows') es ∙ ap (λ r. (D, length below, span) ∷ r) frame.rows_stay);
         unfit_stays = same_unfit;
       }
@@ -64,10 +64,10 @@ module _ (D count count' span span' : ℕ) (below below' : List ℕ) (rows rows'
       }
 
   -- and a swap
-  pub row-asked : (i new shown : ℕ) (xs : List Leaf)
+  pub row_asked : (i new shown : ℕ) (xs : List Leaf)
       → RowSwapped D before after log log' i new shown (at xs 0 ∷ at xs 1 ∷ at xs 2 ∷ [])
       → RowSwapped D before after log log' i new shown (leaf_numbers xs)
-  row-asked i new shown xs r =
+  row_asked i new shown xs r =
       let f = λ (a b : ℕ). second_half D (Some r.page) (a ∷ b ∷ []) (fetched D (i / 8) (shown % 2 ^ D) before) in
       let h = λ (a b : ℕ). log ++ request_entries D (shown % 2 ^ D) (a ∷ b ∷ []) in
       record {
@@ -86,13 +86,13 @@ module _ (D count count' span span' : ℕ) (below below' : List ℕ) (rows rows'
         drain_in_order D below below' rows rows' before after span log log' (leaf_numbers xs) o
         (subst (λ cs. DrainDone below below' rows rows' cs) (left 1 xs) lower) r
 
-    pub drain-ordered : InOrder D below' after
-    drain-ordered = drained.ordered
+    pub drain_ordered : InOrder D below' after
+    drain_ordered = drained.ordered
 
-    pub drain-done : u ≡ None
+    pub drain_done : u ≡ None
         → DrainDone (level_leaves u before (length below)) (level_leaves u' after (length below')) (level_rows D below span log rows)
         (level_rows D below' span' log' rows') (leaf_numbers xs)
-    drain-done fit =
+    drain_done fit =
         record {
           leaves_stay =
               ap (λ x. level_leaves x after (length below')) (same_unfit ∙ fit)
@@ -122,5 +122,5 @@ module _ (D count count' span span' : ℕ) (below below' : List ℕ) (rows rows'
           sets_leaf =
               ap (λ x. level_leaves x after (length below')) (same_unfit ∙ fit)
               ∙ (swapped.leaves ∙ ap (λ x. set (level_leaves x before (length below)) i new) (sym fit));
-          rows-asked = ap (λ s. level_rows D below' s log' rows') es ∙ swapped.asked;
+          rows_asked = ap (λ s. level_rows D below' s log' rows') es ∙ swapped.asked;
         }

@@ -68,8 +68,8 @@ one D (x ∷ coins) l e = ltb-true x (2 ^ D) (and_parts (ltb x (2 ^ D)) _ e).0
 
 pub record SwapPassed (D count n rows span used i : ℕ) (coins : List ℕ) (unfit : Option ℕ) : Type 0 where
   pub fit : Fits D count n rows
-  pub below-fit : unfit ≡ None
-  pub whole-fit : level_unfit (own_fit D count n rows) unfit ≡ None
+  pub below_fit : unfit ≡ None
+  pub whole_fit : level_unfit (own_fit D count n rows) unfit ≡ None
   pub number : i < 8 * n
   pub long : length coins ≡ 3 * suc rows
   pub leaves : (get_or coins 0 0 < 2 ^ D) × (get_or coins 1 0 < 2 ^ D) × (get_or coins 2 0 < 2 ^ D)
@@ -99,8 +99,8 @@ module _ (unfit full : Option ℕ) (row : Row) (below : List ℕ) (rows : List M
       let long : length coins ≡ 3 * suc (length rows) = eqb-true _ _ t5.0 in (
         record {
           fit = fits D count (length below) (length rows) (sym t1.0);
-          below-fit = u;
-          whole-fit = unfit_both fit unfit u t1.0;
+          below_fit = u;
+          whole_fit = unfit_both fit unfit u t1.0;
           number = ltb-true _ _ t2.0;
           long = long;
           leaves = three D coins (omega arith) (and_parts (leb new 4095) (coins_below D 3 coins) t6.0).1;
@@ -112,8 +112,8 @@ module _ (unfit full : Option ℕ) (row : Row) (below : List ℕ) (rows : List M
 
 pub record DrainPassed (D count n rows span used : ℕ) (coins : List ℕ) (unfit : Option ℕ) : Type 0 where
   pub fit : Fits D count n rows
-  pub below-fit : unfit ≡ None
-  pub whole-fit : level_unfit (own_fit D count n rows) unfit ≡ None
+  pub below_fit : unfit ≡ None
+  pub whole_fit : level_unfit (own_fit D count n rows) unfit ≡ None
   pub long : length coins ≡ 1 * suc rows
   pub leaf : get_or coins 0 0 < 2 ^ D
   pub free : used + drain_moves D ≤ span
@@ -134,8 +134,8 @@ module _ (unfit : Option ℕ) (below : List ℕ) (rows : List MapRow) (D count s
       let long : length coins ≡ 1 * suc (length rows) = eqb-true _ _ t5.0 in (
         record {
           fit = fits D count (length below) (length rows) (sym t1.0);
-          below-fit = u;
-          whole-fit = unfit_both fit' unfit u t1.0;
+          below_fit = u;
+          whole_fit = unfit_both fit' unfit u t1.0;
           long = long;
           leaf = one D coins (omega arith) t6.0;
           free = leb-true _ _ t7;

@@ -30,17 +30,17 @@ missing_named : (n r : ℕ) (b : Bool) (o : Option ℕ)
 missing_named n r true o = refl
 missing_named n r false o = refl
 
-leaf-named : (share r : ℕ) (rows : List MapRow) (coins : List ℕ)
+leaf_named : (share r : ℕ) (rows : List MapRow) (coins : List ℕ)
     → leaf_refusal share r rows coins ≡ naming 6 (leaf_row share r rows coins)
-leaf-named share r [] coins = refl
-leaf-named share r (row ∷ rows) coins =
-    ap (or_else _) (leaf-named share (suc r) rows (drop share coins))
+leaf_named share r [] coins = refl
+leaf_named share r (row ∷ rows) coins =
+    ap (or_else _) (leaf_named share (suc r) rows (drop share coins))
     ∙ missing_named 6 r (coins_below row.depth share coins) (leaf_row share (suc r) rows (drop share coins))
 
-log-named : (moves : ℕ → ℕ) (r : ℕ) (rows : List MapRow) → log_refusal moves r rows ≡ naming 7 (log_row moves r rows)
-log-named moves r [] = refl
-log-named moves r (row ∷ rows) =
-    ap (or_else _) (log-named moves (suc r) rows)
+log_named : (moves : ℕ → ℕ) (r : ℕ) (rows : List MapRow) → log_refusal moves r rows ≡ naming 7 (log_row moves r rows)
+log_named moves r [] = refl
+log_named moves r (row ∷ rows) =
+    ap (or_else _) (log_named moves (suc r) rows)
     ∙ missing_named 7 r (leb (length row.log + moves row.depth) row.span) (log_row moves (suc r) rows)
 
 -- counted from the next row on, every row is one deeper
@@ -48,25 +48,25 @@ missing_deeper : (r : ℕ) (b : Bool) (o : Option ℕ) → missing (suc r) b (de
 missing_deeper r true o = refl
 missing_deeper r false o = refl
 
-leaf-deeper : (share r : ℕ) (rows : List MapRow) (coins : List ℕ)
+leaf_deeper : (share r : ℕ) (rows : List MapRow) (coins : List ℕ)
     → leaf_row share (suc r) rows coins ≡ deeper (leaf_row share r rows coins)
-leaf-deeper share r [] coins = refl
-leaf-deeper share r (row ∷ rows) coins =
-    ap (missing (suc r) (coins_below row.depth share coins)) (leaf-deeper share (suc r) rows (drop share coins))
+leaf_deeper share r [] coins = refl
+leaf_deeper share r (row ∷ rows) coins =
+    ap (missing (suc r) (coins_below row.depth share coins)) (leaf_deeper share (suc r) rows (drop share coins))
     ∙ missing_deeper r (coins_below row.depth share coins) (leaf_row share (suc r) rows (drop share coins))
 
-log-deeper : (moves : ℕ → ℕ) (r : ℕ) (rows : List MapRow) → log_row moves (suc r) rows ≡ deeper (log_row moves r rows)
-log-deeper moves r [] = refl
-log-deeper moves r (row ∷ rows) =
-    ap (missing (suc r) (leb (length row.log + moves row.depth) row.span)) (log-deeper moves (suc r) rows)
+log_deeper : (moves : ℕ → ℕ) (r : ℕ) (rows : List MapRow) → log_row moves (suc r) rows ≡ deeper (log_row moves r rows)
+log_deeper moves r [] = refl
+log_deeper moves r (row ∷ rows) =
+    ap (missing (suc r) (leb (length row.log + moves row.depth) row.span)) (log_deeper moves (suc r) rows)
     ∙ missing_deeper r (leb (length row.log + moves row.depth) row.span) (log_row moves (suc r) rows)
 
 -- a refusal that names a deeper row is the refusal raised
-raised-row : (r : ℕ) → stopped (suc r) ≡ min 255 (stopped r + 1)
-raised-row r = omega arith
+raised_row : (r : ℕ) → stopped (suc r) ≡ min 255 (stopped r + 1)
+raised_row r = omega arith
 
 raised-named : (n r : ℕ) → naming n (Some (suc r)) ≡ option_map raised (naming n (Some r))
-raised-named n r = ap (λ x. Some (record { number = n; row = x })) (raised-row r)
+raised-named n r = ap (λ x. Some (record { number = n; row = x })) (raised_row r)
 
 -- The refusals by their tests alone. Below: from the number on, from the coins on, and so forth.
 abbrev from8 : Option ℕ → Option Card
@@ -221,8 +221,8 @@ at1 true t2 t2' t5 t6a t6 t7 q l2 l5 l6 None coins lower logs full e h k =
     ∙ at2 t2 t5 t6a t6 t7 q l2 l5 l6 coins lower logs full h (k refl)
 
 -- with fit coins the new leaf that goes below is not too wide
-narrow-pow : (D : ℕ) → D ≤ 12 → 2 ^ D ≤ 4096
-narrow-pow D le =
+narrow_pow : (D : ℕ) → D ≤ 12 → 2 ^ D ≤ 4096
+narrow_pow D le =
     elim (cases_eq D 12) [
       | inl e ↦ rw e (omega arith)
       | inr n ↦ let h : D < 12 = omega arith in let b = pow_below D 12 h in omega arith
@@ -233,7 +233,7 @@ first_coin D [] l e = absurd (let n : ⊥ = omega arith in n)
 first_coin D (m ∷ ms) l e = ltb-true m (2 ^ D) (and_parts (ltb m (2 ^ D)) (coins_below D 2 ms) e).0
 
 narrow_coin : (D : ℕ) (coins : List ℕ) → D ≤ 12 → 3 ≤ length coins → coins_below D 3 coins ≡ true → get_or coins 0 0 ≤ widest_leaf
-narrow_coin D coins le l e = let a = first_coin D coins l e in let b = narrow-pow D le in omega arith
+narrow_coin D coins le l e = let a = first_coin D coins l e in let b = narrow_pow D le in omega arith
 
 -- what the map below is asked, once there are coins enough
 abbrev Asked : List ℕ → ℕ → List ℕ → Type 0
@@ -247,7 +247,7 @@ pub swap_refusal_lem : (fit : Bool) (unfit full : Option ℕ) (leaves below : Li
     ≡ first_card (own_swap_refusal fit (length below) (length rows) D span log (length queue) i new coins)
     (swap_refusal below rows unfit full (i / leaves_per_page) lower_new rest)
 swap_refusal_lem fit unfit full leaves below rows D span log queue i new coins lower_new rest shallow long asked =
-    rw (leaf-named 3 1 rows (drop 3 coins), leaf-named 3 0 rows rest, log-named request_moves 1 rows, log-named request_moves 0 rows, leaf-deeper 3 0 rows (drop 3 coins), log-deeper request_moves 0 rows)
+    rw (leaf_named 3 1 rows (drop 3 coins), leaf_named 3 0 rows rest, log_named request_moves 1 rows, log_named request_moves 0 rows, leaf_deeper 3 0 rows (drop 3 coins), log_deeper request_moves 0 rows)
     (at1 fit (ltb i (leaves_per_page * length below)) (ltb i (length leaves)) (eqb (length coins) (coins_per_request * suc (length rows)))
     (leb new widest_leaf) (coins_below D 3 coins) (leb (length log + request_moves D) span) (eqb (length queue) capacity)
     (ltb (i / leaves_per_page) (length below)) (eqb (length rest) (coins_per_request * length rows)) (leb lower_new widest_leaf)
@@ -275,7 +275,7 @@ pub drain_refusal_lem : (fit : Bool) (unfit : Option ℕ) (below : List ℕ) (ro
     → drain_refusal (level_rows D below span log rows) (level_unfit fit unfit) coins
     ≡ first_card (own_drain_refusal fit (length rows) D span log coins) (drain_refusal rows unfit rest)
 drain_refusal_lem fit unfit below rows D span log coins rest asked =
-    rw (leaf-named 1 1 rows (drop 1 coins), leaf-named 1 0 rows rest, log-named drain_moves 1 rows, log-named drain_moves 0 rows, leaf-deeper 1 0 rows (drop 1 coins), log-deeper drain_moves 0 rows)
+    rw (leaf_named 1 1 rows (drop 1 coins), leaf_named 1 0 rows rest, log_named drain_moves 1 rows, log_named drain_moves 0 rows, leaf_deeper 1 0 rows (drop 1 coins), log_deeper drain_moves 0 rows)
     (simp or-none at (at1 fit true true (eqb (length coins) (coins_per_drain * suc (length rows))) true (coins_below D 1 coins)
     (leb (length log + drain_moves D) span) false true (eqb (length rest) (coins_per_drain * length rows)) true unfit
     (leaf_row 1 0 rows (drop 1 coins)) (leaf_row 1 0 rows rest) (log_row drain_moves 0 rows) None (λ u f. refl) (λ e. refl)
@@ -297,4 +297,4 @@ pub unfit_number : (rows : List MapRow) (unfit : Option ℕ) (coins : List ℕ) 
 unfit_number rows (Some r) coins c e = let n : c.number ≡ 1 = cc in rw n
 unfit_number rows None coins c e =
     number_of (eqb (length coins) (coins_per_drain * length rows)) (leaf_row 1 0 rows coins) (log_row drain_moves 0 rows) c
-    (rw (leaf-named 1 0 rows coins, log-named drain_moves 0 rows) at e)
+    (rw (leaf_named 1 0 rows coins, log_named drain_moves 0 rows) at e)

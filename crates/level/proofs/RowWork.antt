@@ -74,12 +74,12 @@ dequeue_long D m log one e =
 -- the answered leaf, and all that a swap does to the row, from what each step says
 module _ (D i new shown own a b j m : ℕ) (page : Block) (block : Option Block) (before : Row) (log : List ℕ)
     (ej : j ≡ i / 8) (em : m ≡ shown % 2 ^ D) (eb : block ≡ found D j m before) where
-  same-found : block ≡ found D (i / 8) (shown % 2 ^ D) before
-  same-found = eb ∙ (ap (λ x. found D x m before) ej ∙ ap (λ y. found D (i / 8) y before) em)
+  same_found : block ≡ found D (i / 8) (shown % 2 ^ D) before
+  same_found = eb ∙ (ap (λ x. found D x m before) ej ∙ ap (λ y. found D (i / 8) y before) em)
 
   pub answered : (leaf : ℕ) (leaves : List ℕ) → leaf ≡ get_or leaves (i % 8) 0 → leaves ≡ page_words (words_found block)
       → leaf ≡ get_or (page_words (words_found (found D (i / 8) (shown % 2 ^ D) before))) (i % 8) 0
-  answered leaf leaves e f = e ∙ ap (λ x. get_or x (i % 8) 0) (f ∙ ap (λ o. page_words (words_found o)) same-found)
+  answered leaf leaves e f = e ∙ ap (λ x. get_or x (i % 8) 0) (f ∙ ap (λ o. page_words (words_found o)) same_found)
 
   pub swaps_row : (got longer once twice : Row) (one two three : List ℕ) → page.number.0 ≡ j → page.leaf.0 ≡ own
       → page.words ≡ page_with (page_words (words_found block)) i new → got ≡ fetched D j m before
@@ -91,7 +91,7 @@ module _ (D i new shown own a b j m : ℕ) (page : Block) (block : Option Block)
         page = page;
         number = en ∙ ej;
         leaf = el;
-        words = ew ∙ ap (λ o. page_with (page_words (words_found o)) i new) same-found;
+        words = ew ∙ ap (λ o. page_with (page_words (words_found o)) i new) same_found;
         row =
             request_row_lem D j m a b page before e f h k
             ∙ (ap (λ x. second_half D (Some page) (a ∷ b ∷ []) (fetched D x m before)) ej

@@ -15,12 +15,12 @@ use Rattle.level.proofs.Refusals.{drain_refusal_lem, swap_refusal_lem}
 pub left : (k : ℕ) (xs : List Leaf) → leaf_numbers (take (length xs - k) (drop k xs)) ≡ drop k (leaf_numbers xs)
 left k xs = ap leaf_numbers (take_rest xs k) ∙ numbers_drop k xs
 
-pub drain-answer : (fit : Bool) (unfit : Option ℕ) (below : List ℕ) (rows : List MapRow) (D span : ℕ) (log : List ℕ)
+pub drain_answer : (fit : Bool) (unfit : Option ℕ) (below : List ℕ) (rows : List MapRow) (D span : ℕ) (log : List ℕ)
     (xs rest : List Leaf) {mine lower r : Option Card} → (1 ≤ length xs → rest ≡ take (length xs - 1) (drop 1 xs))
     → r ≡ first_card mine lower
     → mine ≡ own_drain_refusal fit (length rows) D span log (leaf_numbers xs) → lower ≡ drain_refusal rows unfit (leaf_numbers rest)
     → r ≡ drain_refusal (level_rows D below span log rows) (level_unfit fit unfit) (leaf_numbers xs)
-drain-answer fit unfit below rows D span log xs rest {mine} {lower} {r} asked e f h =
+drain_answer fit unfit below rows D span log xs rest {mine} {lower} {r} asked e f h =
     e ∙ ap (λ o. first_card o lower) f
     ∙ ap (first_card (own_drain_refusal fit (length rows) D span log (leaf_numbers xs))) h
     ∙ sym (drain_refusal_lem fit unfit below rows D span log (leaf_numbers xs) (leaf_numbers rest)

@@ -15,9 +15,9 @@ use Rattle.posmap.specs.Maps.{MapFacts, MapRow, Names, OwnLeaves, divided, row_a
 use Rattle.level.specs.Levels.{page_words, pages_from, deeper, level_full, level_leaves, level_rows, level_unfit}
 
 -- a page has eight words, present or absent
-pub eight-words : (o : Option Block) → length (page_words (option_map (λ b. b.words) o)) ≡ 8
-eight-words None = refl
-eight-words (Some b) = b.eight
+pub eight_words : (o : Option Block) → length (page_words (option_map (λ b. b.words) o)) ≡ 8
+eight_words None = refl
+eight_words (Some b) = b.eight
 
 -- page j of a row
 abbrev pub page : ℕ → Row → List ℕ
@@ -25,7 +25,7 @@ page j row = page_words (content j row)
 
 -- which is eight words
 pub eight : (j : ℕ) (row : Row) → length (page j row) ≡ 8
-eight j row = eight-words (block_of j (row_blocks row))
+eight j row = eight_words (block_of j (row_blocks row))
 
 -- so many pages are eight times as many words
 pub length_pages : (row : Row) (j k : ℕ) → length (pages_from row j k) ≡ 8 * k
@@ -41,11 +41,11 @@ unfit_named true None row rows h = tt
 unfit_named false None row rows h = omega arith
 unfit_named fit (Some r) row rows h = omega arith
 
-full-named : (q : Bool) (full : Option ℕ) (row : MapRow) (rows : List MapRow) → Names full rows
+full_named : (q : Bool) (full : Option ℕ) (row : MapRow) (rows : List MapRow) → Names full rows
     → Names (cond q (Some 0) (deeper full)) (row ∷ rows)
-full-named true full row rows h = omega arith
-full-named false None row rows h = tt
-full-named false (Some r) row rows h = omega arith
+full_named true full row rows h = omega arith
+full_named false None row rows h = tt
+full_named false (Some r) row rows h = omega arith
 
 -- nothing unfit: nothing below, and the level itself is fit
 pub none_unfit : (fit : Bool) (unfit : Option ℕ) → level_unfit fit unfit ≡ None → (unfit ≡ None) × (fit ≡ true)
@@ -58,15 +58,15 @@ pub fit_length : (unfit : Option ℕ) (row : Row) (n : ℕ) → unfit ≡ None �
 fit_length unfit row n e = ap (λ u. length (level_leaves u row n)) e ∙ length_pages row 0 n
 
 -- divided once, that is as many as there are pages
-eight-divided : (n m : ℕ) → m ≡ 8 * n → n ≡ divided m
-eight-divided n m e = omega arith
+eight_divided : (n m : ℕ) → m ≡ 8 * n → n ≡ divided m
+eight_divided n m e = omega arith
 
 -- each row has an own leaf for each number that it can be asked
-own-leaves : (unfit : Option ℕ) (row : Row) (below : List ℕ) (rows : List MapRow) (D span : ℕ) (log : List ℕ)
+own_leaves : (unfit : Option ℕ) (row : Row) (below : List ℕ) (rows : List MapRow) (D span : ℕ) (log : List ℕ)
     → unfit ≡ None → OwnLeaves (length below) rows
     → OwnLeaves (length (level_leaves unfit row (length below))) (level_rows D below span log rows)
-own-leaves unfit row below rows D span log e h =
-    let n = eight-divided (length below) (length (level_leaves unfit row (length below))) (fit_length unfit row (length below) e) in
+own_leaves unfit row below rows D span log e h =
+    let n = eight_divided (length below) (length (level_leaves unfit row (length below))) (fit_length unfit row (length below) e) in
     (n, subst (λ k. OwnLeaves k rows) n h)
 
 -- a full row has more than 31 own leaves
@@ -93,9 +93,9 @@ pub level_facts : (ordered : Type 0) (D : ℕ) (below : List ℕ) (rows : List M
 level_facts ordered D below rows unfit full row fit span log facts =
     record {
       unfit_named = unfit_named fit unfit (record { depth = D; own = below; span = span; log = log }) rows facts.unfit_named;
-      full-named = full-named (length row.queue == capacity) full (record { depth = D; own = below; span = span; log = log }) rows facts.full-named;
-      own-leaves = λ e.
-          own-leaves (level_unfit fit unfit) row below rows D span log e (facts.own-leaves (none_unfit fit unfit e).0);
+      full_named = full_named (length row.queue == capacity) full (record { depth = D; own = below; span = span; log = log }) rows facts.full_named;
+      own_leaves = λ e.
+          own_leaves (level_unfit fit unfit) row below rows D span log e (facts.own_leaves (none_unfit fit unfit e).0);
       small_never_full = λ o.
           small_never_full D below row rows span log full (length row.queue == capacity) refl o.1
           (facts.small_never_full o.0);

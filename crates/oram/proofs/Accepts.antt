@@ -80,10 +80,10 @@ nothing_full (Some r) rows h k small =
 
 module _ {K S P F : Type 0} (store : StoreMeaning S) (maps : MapMeaning P F) (coins : List ℕ) (o : Oram K S P) where
   -- a request for record n
-  request-accepted : (n : ℕ) → unfit_of store maps o ≡ None → n < records_of maps o → Leaves 3 (depths_of store maps o) coins
+  request_accepted : (n : ℕ) → unfit_of store maps o ≡ None → n < records_of maps o → Leaves 3 (depths_of store maps o) coins
       → ((r : ℕ) → r < length (rows_of store maps o) → length (row_at (rows_of store maps o) r).log + request_moves (row_at (rows_of store maps o) r).depth ≤ (row_at (rows_of store maps o) r).span)
       → full_of maps o ≡ None → request_refusal store maps o n coins ≡ None
-  request-accepted n fit l right free room =
+  request_accepted n fit l right free room =
       swap_full (maps.leaves o.below) (rows_of store maps o) (unfit_of store maps o) (full_of maps o) n coins fit l right free ∙ ap (naming 8) room
 
   ask_in_time : (n : ℕ) → (o.opened ≡ records_of maps o) × (n < records_of maps o) → ask_time (records_of maps o) o.opened n ≡ None
@@ -95,24 +95,24 @@ module _ {K S P F : Type 0} (store : StoreMeaning S) (maps : MapMeaning P F) (co
   pub accepted : (call : Call K) → Acceptable store maps coins o call → refusal_of store maps o call coins ≡ None
   accepted opening a =
       none_or (ap (naming 1) a.fit)
-      (none_or (open_in_time a.in_time) (request-accepted o.opened a.fit a.in_time a.right a.free a.room))
+      (none_or (open_in_time a.in_time) (request_accepted o.opened a.fit a.in_time a.right a.free a.room))
   accepted (getting n) a =
       none_or (ap (naming 1) a.fit)
-      (none_or (ask_in_time n a.in_time) (request-accepted n a.fit a.in_time.1 a.right a.free a.room))
+      (none_or (ask_in_time n a.in_time) (request_accepted n a.fit a.in_time.1 a.right a.free a.room))
   accepted (putting n x) a =
       none_or (ap (naming 1) a.fit)
-      (none_or (ask_in_time n a.in_time) (request-accepted n a.fit a.in_time.1 a.right a.free a.room))
+      (none_or (ask_in_time n a.in_time) (request_accepted n a.fit a.in_time.1 a.right a.free a.room))
   accepted draining a = drain_passes (rows_of store maps o) (unfit_of store maps o) coins a.fit a.right a.free
   accepted tearing a = refl
 
   -- in a small Oram no queue is full
-  pub small-room : Ordered store maps o → Small (rows_of store maps o) → full_of maps o ≡ None
-  small-room ord small =
+  pub small_room : Ordered store maps o → Small (rows_of store maps o) → full_of maps o ≡ None
+  small_room ord small =
       let b = o.below in
       let few = order_kept.never_full o.depth (maps.leaves b) (row_of store o) ord.1 small.0 in
       let f = maps.facts b in
       room_of (eqb (length (queued o.queue)) capacity) (maps.full b) (ne_eqb _ _ (λ e. omega arith))
-      (nothing_full (maps.full b) (maps.rows b) f.full-named (f.small_never_full ord.0) small.1)
+      (nothing_full (maps.full b) (maps.rows b) f.full_named (f.small_never_full ord.0) small.1)
 
 -- a refusal whose number is at most 7
 abbrev Early : Option Card → Type 0

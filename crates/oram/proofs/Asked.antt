@@ -16,13 +16,13 @@ use Rattle.front.proofs.Coins.{at, numbers_at}
 use Rattle.front.proofs.Kept.{kept_found, kept_order}
 use Rattle.oram.specs.Calls.{ArrivesAs, rows_requested}
 use Rattle.oram.specs.Rows.{RowRequested, words_found}
-use Rattle.oram.proofs.Arrivals.{arrives-named}
+use Rattle.oram.proofs.Arrivals.{arrives_named}
 use Rattle.oram.proofs.Passed.{both_none, test_passed}
 
 -- row 0 has the entries free that the call makes there
-pub row-free : (moves : ℕ → ℕ) (row : MapRow) (rows : List MapRow) → log_refusal moves 0 (row ∷ rows) ≡ None
+pub row_free : (moves : ℕ → ℕ) (row : MapRow) (rows : List MapRow) → log_refusal moves 0 (row ∷ rows) ≡ None
     → length row.log + moves row.depth ≤ row.span
-row-free moves row rows e =
+row_free moves row rows e =
     leb-true _ _ (test_passed _ _ (both_none (unless (leb (length row.log + moves row.depth) row.span) _) (log_refusal moves 1 rows) e).0)
 
 -- the coins of row 0 as numbers
@@ -37,10 +37,10 @@ as_numbers D before after log log' n along xs put words r =
 -- all of it
 pub record AllAsked (D : ℕ) (leaves leaves' : List ℕ) (rows rows' : List MapRow) (before after : Row) (span : ℕ) (log log' : List ℕ)
     (n : ℕ) (coins : List ℕ) (put words : Option (List ℕ)) (arrives : Option Block) : Type 0 where
-  pub found-words : words ≡ content n before
+  pub found_words : words ≡ content n before
   pub arrives_as : ArrivesAs n (get_or coins 0 0) (option_or put (content n before)) arrives
   pub row : after ≡ second_half D arrives (get_or coins 1 0 ∷ get_or coins 2 0 ∷ []) (fetched D n (get_or leaves n 0) before)
-  pub all-rows : front_rows D leaves' span log' rows' ≡ rows_requested (front_rows D leaves span log rows) n coins
+  pub all_rows : front_rows D leaves' span log' rows' ≡ rows_requested (front_rows D leaves span log rows) n coins
   pub ordered : InOrder D leaves' after
 
 module _ (D : ℕ) (leaves leaves' : List ℕ) (rows rows' : List MapRow) (before after : Row) (span : ℕ) (log log' : List ℕ)
@@ -58,36 +58,36 @@ module _ (D : ℕ) (leaves leaves' : List ℕ) (rows rows' : List MapRow) (befor
   along_is : in_range D shown ≡ old
   along_is =
       cond-true _ _ _ depth
-      ∙ (ap (λ m. m % 2 ^ D) lower.shown ∙ mod-eq_of_lt (All-get_or (λ m. m < 2 ^ D) leaves n 0 l o.leaves-fit))
+      ∙ (ap (λ m. m % 2 ^ D) lower.shown ∙ mod-eq_of_lt (All-get_or (λ m. m < 2 ^ D) leaves n 0 l o.leaves_fit))
 
-  asked-row : after ≡ second_half D r.arrives flushes (fetched D n old before)
-  asked-row = r.row ∙ ap (λ m. second_half D r.arrives flushes (fetched D n m before)) along_is
+  asked_row : after ≡ second_half D r.arrives flushes (fetched D n old before)
+  asked_row = r.row ∙ ap (λ m. second_half D r.arrives flushes (fetched D n m before)) along_is
 
-  asked-words : words ≡ content n before
-  asked-words =
+  asked_words : words ≡ content n before
+  asked_words =
       r.finds_words
       ∙ (ap (λ m. words_found (found D n m before)) along_is
       ∙ kept_found D leaves before after n (get_or coins 0 0) r.arrives flushes o l fits room
-      (arrives-named n (get_or coins 0 0) (option_or put words) r.arrives r.arrives_as) asked-row)
+      (arrives_named n (get_or coins 0 0) (option_or put words) r.arrives r.arrives_as) asked_row)
 
-  asked-rows : front_rows D leaves' span log' rows' ≡ rows_requested (front_rows D leaves span log rows) n coins
-  asked-rows =
+  asked_rows : front_rows D leaves' span log' rows' ≡ rows_requested (front_rows D leaves span log rows) n coins
+  asked_rows =
       ap (λ xs. front_rows D xs span log' rows') lower.sets_leaf
       ∙ (ap (λ xs. front_rows D (set leaves n (get_or coins 0 0)) span xs rows') r.entries
       ∙ (ap (λ m. front_rows D (set leaves n (get_or coins 0 0)) span (log ++ request_entries D m flushes) rows') along_is
-      ∙ ap (front_rows D (set leaves n (get_or coins 0 0)) span (log ++ request_entries D old flushes)) lower.rows-asked))
+      ∙ ap (front_rows D (set leaves n (get_or coins 0 0)) span (log ++ request_entries D old flushes)) lower.rows_asked))
 
   pub asked : AllAsked D leaves leaves' rows rows' before after span log log' n coins put words r.arrives
   asked =
       record {
-        found-words = asked-words;
-        arrives_as = subst (λ ws. ArrivesAs n (get_or coins 0 0) (option_or put ws) r.arrives) asked-words r.arrives_as;
-        row = asked-row;
-        all-rows = asked-rows;
+        found_words = asked_words;
+        arrives_as = subst (λ ws. ArrivesAs n (get_or coins 0 0) (option_or put ws) r.arrives) asked_words r.arrives_as;
+        row = asked_row;
+        all_rows = asked_rows;
         ordered =
             rw lower.sets_leaf
             (kept_order D leaves before after n (get_or coins 0 0) r.arrives flushes o l fits room
-            (arrives-named n (get_or coins 0 0) (option_or put words) r.arrives r.arrives_as) asked-row);
+            (arrives_named n (get_or coins 0 0) (option_or put words) r.arrives r.arrives_as) asked_row);
       }
 
 -- a drain, in the same way

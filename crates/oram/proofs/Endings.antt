@@ -27,7 +27,7 @@ module _ {K S P F : Type 0} (kind : KindMeaning K) (store : StoreMeaning S) (map
       record {
         refusal = e;
         same = λ _. refl;
-        frame = record { rows = record { length-stays = refl; rows_stay = refl; unfit_stays = refl }; buckets = refl };
+        frame = record { rows = record { length_stays = refl; rows_stay = refl; unfit_stays = refl }; buckets = refl };
         accepted = λ _ h. absurd (false≢true h);
       }
 
@@ -49,10 +49,10 @@ module _ {K S P F : Type 0} (kind : KindMeaning K) (store : StoreMeaning S) (map
   module _ (card : CardMeaning F) (o' : Oram K S P) (n : ℕ) (put : Option (List ℕ)) (time : Option Card)
       (passed : None ≡ or_else (naming 1 (unfit_of store maps o)) time) where
     -- a request that is refused by its coins, a log or a queue
-    pub request-refused : (call : Call K)
+    pub request_refused : (call : Call K)
         → or_else (naming 1 (unfit_of store maps o)) (or_else time (request_refusal store maps o n coins)) ≡ refusal_of store maps o call coins
         → (f : OramFault F) → Asks kind store maps card coins o o' n put (Err f) → Does kind store maps coins o o' call (refused (card_in card f))
-    request-refused call whole f a =
+    request_refused call whole f a =
         record {
           refusal = a.refusal ∙ (time_passes (naming 1 (unfit_of store maps o)) time (request_refusal store maps o n coins) passed ∙ whole);
           same = λ _. a.same refl;
@@ -60,9 +60,9 @@ module _ {K S P F : Type 0} (kind : KindMeaning K) (store : StoreMeaning S) (map
           accepted = λ _ h. absurd (false≢true h);
         }
 
-    accepted-whole : (words : Option (List ℕ)) → Asks kind store maps card coins o o' n put (Ok words)
+    accepted_whole : (words : Option (List ℕ)) → Asks kind store maps card coins o o' n put (Ok words)
         → None ≡ or_else (naming 1 (unfit_of store maps o)) (or_else time (request_refusal store maps o n coins))
-    accepted-whole words a =
+    accepted_whole words a =
         a.refusal ∙ time_passes (naming 1 (unfit_of store maps o)) time (request_refusal store maps o n coins) passed
 
   -- a get that is accepted
@@ -72,7 +72,7 @@ module _ {K S P F : Type 0} (kind : KindMeaning K) (store : StoreMeaning S) (map
       → Does kind store maps coins o o' (getting n) (did x)
   get_done card o' n passed words x e a =
       record {
-        refusal = accepted-whole card o' n None (ask_time (records_of maps o) o.opened n) passed words a;
+        refusal = accepted_whole card o' n None (ask_time (records_of maps o) o.opened n) passed words a;
         same = λ h. absurd (false≢true (sym h));
         frame = a.frame;
         accepted = λ ord _. record {
@@ -90,7 +90,7 @@ module _ {K S P F : Type 0} (kind : KindMeaning K) (store : StoreMeaning S) (map
       → Does kind store maps coins o o' (putting n y) (did x)
   put_done card o' n y laid el passed words x e a =
       record {
-        refusal = accepted-whole card o' n (Some laid) (ask_time (records_of maps o) o.opened n) passed words a;
+        refusal = accepted_whole card o' n (Some laid) (ask_time (records_of maps o) o.opened n) passed words a;
         same = λ h. absurd (false≢true (sym h));
         frame = a.frame;
         accepted = λ ord _. record {
@@ -110,7 +110,7 @@ module _ {K S P F : Type 0} (kind : KindMeaning K) (store : StoreMeaning S) (map
       → Does kind store maps coins o (one_more o') opening (did None)
   open_done card o' passed words a =
       record {
-        refusal = accepted-whole card o' o.opened None (open_time (records_of maps o) o.opened) passed words a;
+        refusal = accepted_whole card o' o.opened None (open_time (records_of maps o) o.opened) passed words a;
         same = λ h. absurd (false≢true (sym h));
         frame = record { rows = a.frame.rows; buckets = a.frame.buckets };
         accepted = λ ord _.
@@ -124,9 +124,9 @@ module _ {K S P F : Type 0} (kind : KindMeaning K) (store : StoreMeaning S) (map
       }
 
   -- a drain that is accepted
-  pub drain-done : (o' : Oram K S P) → None ≡ refusal_of store maps o draining coins → Frame kind store maps coins o o' → o'.opened ≡ o.opened
+  pub drain_done : (o' : Oram K S P) → None ≡ refusal_of store maps o draining coins → Frame kind store maps coins o o' → o'.opened ≡ o.opened
       → (Ordered store maps o → Drained kind store maps coins o o' × Ordered store maps o') → Does kind store maps coins o o' draining (did None)
-  drain-done o' e frame opened work =
+  drain_done o' e frame opened work =
       record {
         refusal = e;
         same = λ h. absurd (false≢true (sym h));

@@ -18,9 +18,9 @@ abbrev pub AllFollow : List MapRow → List Deed → List (List ℕ) → Type 0
 AllFollow rows ds cs = (r : ℕ) → r < length rows → Follows r (row_at rows r) ds cs
 
 -- divided before or after, the number is the same
-number-divided : (r i : ℕ) → row_number r (i / 8) ≡ row_number r i / 8
-number-divided zero i = refl
-number-divided (suc r) i = ap (λ k. k / 8) (number-divided r i)
+number_divided : (r i : ℕ) → row_number r (i / 8) ≡ row_number r i / 8
+number_divided zero i = refl
+number_divided (suc r) i = ap (λ k. k / 8) (number_divided r i)
 
 -- what each row of a map does in a swap
 swapped_at : (rows : List MapRow) (i : ℕ) (coins : List ℕ) (r : ℕ) → r < length rows
@@ -30,7 +30,7 @@ swapped_at (row ∷ rows) i coins zero l = refl
 swapped_at (row ∷ rows) i coins (suc r) l =
     let e : 3 + 3 * r ≡ 3 * suc r = omega arith in
     swapped_at rows (i / 8) (drop 3 coins) r (omega arith)
-    ∙ (ap (λ j. row_swapped (row_at rows r) j (drop (3 * r) (drop 3 coins))) (number-divided (suc r) i)
+    ∙ (ap (λ j. row_swapped (row_at rows r) j (drop (3 * r) (drop 3 coins))) (number_divided (suc r) i)
     ∙ ap (row_swapped (row_at rows r) (row_number (suc (suc r)) i)) (drop-drop (3 * r) 3 coins ∙ ap (λ k. drop k coins) e))
 
 -- what each row of an Oram does in a request
@@ -74,15 +74,15 @@ module _ (r : ℕ) (row : MapRow) (n : ℕ) (coins : List ℕ) (ds : List Deed) 
   abbrev before : List ℕ
   before = log_of D r ds cs
 
-  asked-log : row.log ++ request_entries D (get_or own j 0) (a ∷ b ∷ []) ≡ log_of D r (request n ∷ ds) (coins ∷ cs)
-  asked-log =
+  asked_log : row.log ++ request_entries D (get_or own j 0) (a ∷ b ∷ []) ≡ log_of D r (request n ∷ ds) (coins ∷ cs)
+  asked_log =
       ap (λ log. log ++ request_entries D (get_or own j 0) (a ∷ b ∷ [])) f.log
       ∙ (ap (λ m. before ++ request_entries D m (a ∷ b ∷ [])) (f.leaves j l)
       ∙ (ap (λ x. before ++ request_entries D (shown_in r ds cs j) (x ∷ b ∷ [])) (share_at coins (3 * r) 1)
       ∙ ap (λ x. before ++ request_entries D (shown_in r ds cs j) (get_or coins (3 * r + 1) 0 ∷ x ∷ [])) (share_at coins (3 * r) 2)))
 
-  asked-leaf : (m : ℕ) → m < length own → get_or (set own j new) m 0 ≡ shown_in r (request n ∷ ds) (coins ∷ cs) m
-  asked-leaf m k =
+  asked_leaf : (m : ℕ) → m < length own → get_or (set own j new) m 0 ≡ shown_in r (request n ∷ ds) (coins ∷ cs) m
+  asked_leaf m k =
       elim (cases_eq m j) [
         | inl e ↦
             ap (λ i. get_or (set own j new) i 0) e
@@ -92,7 +92,7 @@ module _ (r : ℕ) (row : MapRow) (n : ℕ) (coins : List ℕ) (ds : List Deed) 
       ]
 
   asked_follows : Follows r (row_swapped row j (drop (3 * r) coins)) (request n ∷ ds) (coins ∷ cs)
-  asked_follows = record { log = asked-log; leaves = λ m k. asked-leaf m (rw (length-set own j new) at k) }
+  asked_follows = record { log = asked_log; leaves = λ m k. asked_leaf m (rw (length-set own j new) at k) }
 
 -- every row has a leaf for the number that it is asked
 has_number_lem : (rows : List MapRow) (N n : ℕ) → OwnLeaves N rows → n < N → (r : ℕ) → r < length rows
@@ -101,7 +101,7 @@ has_number_lem [] N n o l r k = absurd (let z : ⊥ = omega arith in z)
 has_number_lem (row ∷ rows) N n o l zero k = let e = o.0 in omega arith
 has_number_lem (row ∷ rows) N n o l (suc r) k =
     let h : n / 8 < divided N = omega arith in
-    rw (← number-divided (suc r) n) (has_number_lem rows (divided N) (n / 8) o.1 h r (omega arith))
+    rw (← number_divided (suc r) n) (has_number_lem rows (divided N) (n / 8) o.1 h r (omega arith))
 
 -- as many rows as before
 swapped_long : (rows : List MapRow) (i : ℕ) (coins : List ℕ) → length (rows_swapped rows i coins) ≡ length rows

@@ -13,7 +13,7 @@ use Rattle.oram.specs.declared.oram.Oram.{Oram}
 use Rattle.oram.specs.Calls.{Does, Done, Outcome, refused, did, answer_of, is_done, refusal_of, requested_by, rows_requested}
 use Rattle.oram.specs.Orams.{Ordered, depths_of, held, records_of, rows_of}
 use Rattle.oram.specs.Worked.{Lawful, Worked, moves_after, moves_by, moves_in}
-use Rattle.oram.proofs.Accepts.{accepted, never_eight, none_done, small-room}
+use Rattle.oram.proofs.Accepts.{accepted, never_eight, none_done, small_room}
 use Rattle.oram.proofs.Works.{does_works, in_time}
 
 -- the entries that a swap makes in the rows of a map
@@ -26,10 +26,10 @@ swapped_moves (row ∷ rows) i coins =
     let b = entry_counts.request row.depth (get_or row.own (i / 8) 0) (get_or coins 1 0 ∷ get_or coins 2 0 ∷ []) refl in
     omega arith
 
-requested-moves : (rows : List MapRow) (n : ℕ) (coins : List ℕ)
+requested_moves : (rows : List MapRow) (n : ℕ) (coins : List ℕ)
     → moves_in (rows_requested rows n coins) ≡ moves_in rows + total request_moves (map (λ row. row.depth) rows)
-requested-moves [] n coins = refl
-requested-moves (row ∷ rows) n coins =
+requested_moves [] n coins = refl
+requested_moves (row ∷ rows) n coins =
     let h = swapped_moves rows n (drop 3 coins) in
     let a = length-append row.log (request_entries row.depth (get_or row.own n 0) (get_or coins 1 0 ∷ get_or coins 2 0 ∷ [])) in
     let b = entry_counts.request row.depth (get_or row.own n 0) (get_or coins 1 0 ∷ get_or coins 2 0 ∷ []) refl in
@@ -50,38 +50,38 @@ torn_moves (row ∷ rows) = let h = torn_moves rows in omega arith
 
 module _ {K S P F : Type 0} (kind : KindMeaning K) (store : StoreMeaning S) (maps : MapMeaning P F)
     (again : (x : K) → kind.made (kind.laid x) ≡ x) (coins : List ℕ) (o o' : Oram K S P) where
-  call-moves : (call : Call K) (outcome : Outcome K) → Done kind store maps coins o o' call outcome
+  call_moves : (call : Call K) (outcome : Outcome K) → Done kind store maps coins o o' call outcome
       → moves_in (rows_of store maps o') ≡ moves_after (sort call) (depths_of store maps o) (moves_in (rows_of store maps o))
-  call-moves opening outcome d = ap moves_in d.work.rows ∙ requested-moves (rows_of store maps o) o.opened coins
-  call-moves (getting n) outcome d = ap moves_in d.work.rows ∙ requested-moves (rows_of store maps o) n coins
-  call-moves (putting n x) outcome d = ap moves_in d.work.rows ∙ requested-moves (rows_of store maps o) n coins
-  call-moves draining outcome d = ap moves_in d.work.rows ∙ drained_moves (rows_of store maps o) coins
-  call-moves tearing outcome d = ap moves_in d.work.rows ∙ torn_moves (rows_of store maps o)
+  call_moves opening outcome d = ap moves_in d.work.rows ∙ requested_moves (rows_of store maps o) o.opened coins
+  call_moves (getting n) outcome d = ap moves_in d.work.rows ∙ requested_moves (rows_of store maps o) n coins
+  call_moves (putting n x) outcome d = ap moves_in d.work.rows ∙ requested_moves (rows_of store maps o) n coins
+  call_moves draining outcome d = ap moves_in d.work.rows ∙ drained_moves (rows_of store maps o) coins
+  call_moves tearing outcome d = ap moves_in d.work.rows ∙ torn_moves (rows_of store maps o)
 
   -- what a get or a put finds is what the plain array holds
-  call-right : (call : Call K) (x : Option K) → Does kind store maps coins o o' call (did x) → (h : History K) → Worked kind store maps h o
+  call_right : (call : Call K) (x : Option K) → Does kind store maps coins o o' call (did x) → (h : History K) → Worked kind store maps h o
       → did x ≡ did (answer_of call (get_or (plain_array (records_of maps o) h) (requested_by o.opened call) None))
-  call-right opening x d h w = (d.accepted w.ordered refl).answer
-  call-right (getting n) x d h w =
+  call_right opening x d h w = (d.accepted w.ordered refl).answer
+  call_right (getting n) x d h w =
       (d.accepted w.ordered refl).answer
       ∙ ap did (w.array n (in_time kind store maps again coins o o' d.frame h w n d.refusal).0.1)
-  call-right (putting n y) x d h w =
+  call_right (putting n y) x d h w =
       (d.accepted w.ordered refl).answer
       ∙ ap did (w.array n (in_time kind store maps again coins o o' d.frame h w n d.refusal).0.1)
-  call-right draining x d h w = (d.accepted w.ordered refl).answer
-  call-right tearing x d h w = (d.accepted w.ordered refl).answer
+  call_right draining x d h w = (d.accepted w.ordered refl).answer
+  call_right tearing x d h w = (d.accepted w.ordered refl).answer
 
   pub lawful : (call : Call K) (outcome : Outcome K) → Does kind store maps coins o o' call outcome → Lawful kind store maps coins o o' call outcome
   lawful call outcome d =
       record {
         worked = does_works kind store maps again coins o o' call outcome d;
         right = right outcome d;
-        moves = λ ord e. call-moves call outcome (d.accepted ord e);
-        small = λ ord s c e n. never_eight store maps coins o call (small-room store maps coins o ord s) c (sym d.refusal ∙ e) n;
+        moves = λ ord e. call_moves call outcome (d.accepted ord e);
+        small = λ ord s c e n. never_eight store maps coins o call (small_room store maps coins o ord s) c (sym d.refusal ∙ e) n;
         accepts = λ a. none_done outcome (d.refusal ∙ accepted store maps coins o call a);
       }
     where
       right : (x : Outcome K) → Does kind store maps coins o o' call x → (h : History K) → Worked kind store maps h o → is_done x ≡ true
           → x ≡ did (answer_of call (get_or (plain_array (records_of maps o) h) (requested_by o.opened call) None))
-      right (did x) d h w e = call-right call x d h w
+      right (did x) d h w e = call_right call x d h w
       right (refused c) d h w e = absurd (false≢true e)

@@ -48,9 +48,9 @@ each_coin share q (row ∷ rows) coins long e (suc r) i k h =
     let l : length (drop share coins) ≡ share * length rows = omega (arith, length-drop share coins) in
     rw (z, ← (get_or-drop share coins (share * r + i) 0)) (each_coin share (suc q) rows (drop share coins) l p.1 r i (omega arith) h)
 
-pub coins-right : (share q : ℕ) (rows : List MapRow) (coins : List ℕ) → length coins ≡ share * length rows
+pub coins_right : (share q : ℕ) (rows : List MapRow) (coins : List ℕ) → length coins ≡ share * length rows
     → leaf_refusal share q rows coins ≡ None → Leaves share (map (λ row. row.depth) rows) coins
-coins-right share q rows coins long e = (
+coins_right share q rows coins long e = (
   long ∙ ap (λ n. share * n) (sym (length-map rows (λ row. row.depth))),
   each_coin share q rows coins long e,
 )
@@ -76,7 +76,7 @@ swap_passed leaves rows unfit full n new coins e =
     record {
       fit = none_named 1 unfit t1.0;
       number = ltb-true n (length leaves) (test_passed _ _ t2.0);
-      right = coins-right 3 0 rows coins long t6a.0;
+      right = coins_right 3 0 rows coins long t6a.0;
       free = t7.0;
       room = none_named 8 full t7.1;
     }
@@ -94,4 +94,4 @@ drain_passed rows unfit coins e =
     let t5 = both_none (unless (eqb (length coins) (1 * length rows)) _) _ t1.1 in
     let t6 = both_none (leaf_refusal 1 0 rows coins) _ t5.1 in
     let long : length coins ≡ 1 * length rows = eqb-true _ _ (test_passed _ _ t5.0) in
-    record { fit = none_named 1 unfit t1.0; right = coins-right 1 0 rows coins long t6.0; free = t6.1 }
+    record { fit = none_named 1 unfit t1.0; right = coins_right 1 0 rows coins long t6.0; free = t6.1 }

@@ -34,7 +34,7 @@ module _ {K S P F : Type 0} (kind : KindMeaning K) (store : StoreMeaning S) (map
         array = λ m l.
             ap (option_map kind.made)
             (ap (content m) (zero_row (store.buckets o.store) (store.buckets o.store) o.queue b.buckets b.queue)
-            ∙ order_kept.cleared-holds m (length (store.buckets o.store)))
+            ∙ order_kept.cleared_holds m (length (store.buckets o.store)))
             ∙ sym (get_d_none (records_of maps o) m);
         can = tt;
       }

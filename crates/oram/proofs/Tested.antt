@@ -11,11 +11,11 @@ use Rattle.posmap.specs.declared.interface.PositionMap.{Ghosts as MapMeaning}
 use Rattle.posmap.specs.Maps.{MapRow, drain_refusal, swap_refusal}
 use Rattle.front.proofs.Fits as fronts
 use Rattle.front.proofs.Fits.{fits, request_passed}
-use Rattle.front.proofs.Kept.{room_left, none-full, none_unfit}
+use Rattle.front.proofs.Kept.{room_left, none_full, none_unfit}
 use Rattle.oram.specs.declared.oram.Oram.{Oram}
 use Rattle.oram.specs.Calls.{request_refusal}
 use Rattle.oram.specs.Orams.{full_of, most_records, records_of, rows_of, unfit_of}
-use Rattle.oram.proofs.Asked.{row-free}
+use Rattle.oram.proofs.Asked.{row_free}
 use Rattle.oram.proofs.Passed.{drain_passed, swap_passed}
 
 module _ {K S P F : Type 0} (store : StoreMeaning S) (maps : MapMeaning P F) (o : Oram K S P) (coins : List ℕ)
@@ -54,8 +54,8 @@ module _ {K S P F : Type 0} (store : StoreMeaning S) (maps : MapMeaning P F) (o 
         depth = own_is_fit.depth;
         many = omega arith;
         leaves = (p.right.1 0 0 (omega arith) (omega arith), p.right.1 0 1 (omega arith) (omega arith), p.right.1 0 2 (omega arith) (omega arith));
-        free = row-free request_moves row (maps.rows b) p.free;
-        room = room_left o.queue (none-full (eqb (length (queued o.queue)) capacity) (maps.full b) p.room);
+        free = row_free request_moves row (maps.rows b) p.free;
+        room = room_left o.queue (none_full (eqb (length (queued o.queue)) capacity) (maps.full b) p.room);
         lower =
             request_passed most_records D (length (store.buckets o.store)) (store.span o.store) (maps.leaves b) (maps.rows b) (maps.unfit b)
             (store.log o.store) coins is-fit (maps.full b) (queued o.queue) n l e;
@@ -77,7 +77,7 @@ module _ {K S P F : Type 0} (store : StoreMeaning S) (maps : MapMeaning P F) (o 
         fit = own_is_fit.fit;
         many = omega arith;
         leaf = p.right.1 0 0 (omega arith) (omega arith);
-        free = row-free drain_moves row (maps.rows b) p.free;
+        free = row_free drain_moves row (maps.rows b) p.free;
         lower =
             fronts.drain_passed most_records D (length (store.buckets o.store)) (store.span o.store) (maps.leaves b) (maps.rows b) (maps.unfit b)
             (store.log o.store) coins is-fit e;

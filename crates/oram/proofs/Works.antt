@@ -14,15 +14,15 @@ use Rattle.store.specs.declared.interface.BucketStore.{Ghosts as StoreMeaning}
 use Rattle.posmap.specs.declared.interface.PositionMap.{Ghosts as MapMeaning}
 use Rattle.posmap.specs.Maps.{Card, MapRow, OwnLeaves, fixed_of, naming, or_else, unless}
 use Rattle.row.specs.Rows.{decoded_row}
-use Rattle.front.proofs.Kept.{room_left, kept_holds, kept_others, none-full, none_unfit}
+use Rattle.front.proofs.Kept.{room_left, kept_holds, kept_others, none_full, none_unfit}
 use Rattle.history.specs.Histories.{AllCan, Call, opening, getting, putting, draining, tearing, History, Leaves, coins_of, deeds, CanAccept, Turn, drain, opened, plain_array, request, tear_off, written}
 use Rattle.oram.specs.declared.oram.Oram.{Oram}
 use Rattle.oram.specs.Calls.{ArrivesAs, Does, Done, Drained, Frame, Outcome, refused, did, Requested, TornOff, answer_of, ask_time, request_refusal, is_done, refusal_of, requested_by, words_after}
 use Rattle.oram.specs.Orams.{Begun, Ordered, depths_of, held, records_of, row_of, rows_of, unfit_of, full_of}
 use Rattle.oram.specs.Worked.{Lawful, Worked, turn_of}
-use Rattle.oram.proofs.Arrivals.{arrives-named, arrives-words}
+use Rattle.oram.proofs.Arrivals.{arrives_named, arrives_words}
 use Rattle.oram.proofs.Follow.{AllFollow, begun_follows, drain_follows, request_follows, rest_follows, tear_follows}
-use Rattle.oram.proofs.Passed.{SwapPassed, both_none, coins-right, drain_passed, none_named, swap_passed, test_passed}
+use Rattle.oram.proofs.Passed.{SwapPassed, both_none, coins_right, drain_passed, none_named, swap_passed, test_passed}
 
 -- the plain array keeps its length
 written_long : {R : Type 0} (c : Call R) (xs : List (Option R)) → length (written c xs) ≡ length xs
@@ -72,29 +72,29 @@ module _ {K S P F : Type 0} (kind : KindMeaning K) (store : StoreMeaning S) (map
     fits = p.right.1 0 0 (omega arith) (omega arith)
 
     room : length (queued o.queue) < capacity
-    room = room_left o.queue (none-full (eqb (length (queued o.queue)) capacity) (maps.full o.below) p.room)
+    room = room_left o.queue (none_full (eqb (length (queued o.queue)) capacity) (maps.full o.below) p.room)
 
     holds : content n (row_of store o') ≡ words (content n (row_of store o))
     holds =
         kept_holds o.depth (maps.leaves o.below) (row_of store o) (row_of store o') n (get_or coins 0 0) req.arrives
         (get_or coins 1 0 ∷ get_or coins 2 0 ∷ []) w.ordered.1 p.number fits room
-        (arrives-named n (get_or coins 0 0) (words (content n (row_of store o))) req.arrives req.arrives_as) req.row
-        ∙ arrives-words n (get_or coins 0 0) (words (content n (row_of store o))) req.arrives req.arrives_as
+        (arrives_named n (get_or coins 0 0) (words (content n (row_of store o))) req.arrives req.arrives_as) req.row
+        ∙ arrives_words n (get_or coins 0 0) (words (content n (row_of store o))) req.arrives req.arrives_as
 
     others : (m : ℕ) → (m ≡ n → ⊥) → content m (row_of store o') ≡ content m (row_of store o)
     others =
         kept_others o.depth (maps.leaves o.below) (row_of store o) (row_of store o') n (get_or coins 0 0) req.arrives
         (get_or coins 1 0 ∷ get_or coins 2 0 ∷ []) w.ordered.1 p.number fits room
-        (arrives-named n (get_or coins 0 0) (words (content n (row_of store o))) req.arrives req.arrives_as) req.row
+        (arrives_named n (get_or coins 0 0) (words (content n (row_of store o))) req.arrives req.arrives_as) req.row
 
-    own-leaves : OwnLeaves (records_of maps o) (maps.rows o.below)
-    own-leaves = (maps.facts o.below).own-leaves (none_unfit _ (maps.unfit o.below) p.fit).0
+    own_leaves : OwnLeaves (records_of maps o) (maps.rows o.below)
+    own_leaves = (maps.facts o.below).own_leaves (none_unfit _ (maps.unfit o.below) p.fit).0
 
     follow : AllFollow (rows_of store maps o') (request n ∷ deeds h) (coins ∷ coins_of h)
     follow =
         let P : List MapRow → Type 0 = λ rows. AllFollow rows (request n ∷ deeds h) (coins ∷ coins_of h) in
         subst P (sym req.rows)
-        (request_follows _ (maps.rows o.below) n coins (deeds h) (coins_of h) own-leaves p.number
+        (request_follows _ (maps.rows o.below) n coins (deeds h) (coins_of h) own_leaves p.number
         (λ r l. record { log = w.logs r l; leaves = λ m k. w.leaves r m l k }))
 
     -- a record that is kept
@@ -135,14 +135,14 @@ module _ {K S P F : Type 0} (kind : KindMeaning K) (store : StoreMeaning S) (map
     can_go_on t c =
         let Q : ℕ → Type 0 = λ n. AllCan n (depths_of store maps o') (t ∷ h) in
         let R : List ℕ → Type 0 = λ ds. AllCan N ds (t ∷ h) in
-        subst Q (sym frame.rows.length-stays)
+        subst Q (sym frame.rows.length_stays)
         (subst R (sym (same_depths (rows_of store maps o) (rows_of store maps o') frame.rows.rows_stay)) (λ _. c, w.can))
 
     -- the plain array where nothing is put
     keeps_array : ((m : ℕ) → held kind store m o' ≡ held kind store m o) → (m : ℕ) → m < records_of maps o'
         → held kind store m o' ≡ get_or (plain_array (records_of maps o') h) m None
     keeps_array same m l =
-        same m ∙ (w.array m (rw frame.rows.length-stays at l) ∙ ap (λ n. get_or (plain_array n h) m None) (sym frame.rows.length-stays))
+        same m ∙ (w.array m (rw frame.rows.length_stays at l) ∙ ap (λ n. get_or (plain_array n h) m None) (sym frame.rows.length_stays))
 
     -- an open
     opening_works : (x : Option K) → Done kind store maps coins o o' opening (did x) → None ≡ refusal_of store maps o opening coins
@@ -201,8 +201,8 @@ module _ {K S P F : Type 0} (kind : KindMeaning K) (store : StoreMeaning S) (map
           leaves = λ r m l k. (f r l).leaves m k;
           opened = d.opened ∙ w.opened;
           array = λ m l.
-              puts frame d.ordered n (λ ws. Some (kind.laid y)) d.work p.1 h w y (λ ws. refl) m (rw frame.rows.length-stays at l)
-              ∙ ap (λ k. get_or (set (plain_array k h) n (Some y)) m None) (sym frame.rows.length-stays);
+              puts frame d.ordered n (λ ws. Some (kind.laid y)) d.work p.1 h w y (λ ws. refl) m (rw frame.rows.length_stays at l)
+              ∙ ap (λ k. get_or (set (plain_array k h) n (Some y)) m None) (sym frame.rows.length_stays);
           can = can_go_on (turn_of (putting n y) coins (did x)) (p.0, p.1.right);
         }
 
@@ -221,7 +221,7 @@ module _ {K S P F : Type 0} (kind : KindMeaning K) (store : StoreMeaning S) (map
           opened = d.opened ∙ w.opened;
           array = keeps_array
               (λ m. ap (option_map kind.made)
-              (ap (content m) d.work.row ∙ order_kept.drain-holds o.depth (get_or coins 0 0) (maps.leaves o.below) (row_of store o) w.ordered.1 m));
+              (ap (content m) d.work.row ∙ order_kept.drain_holds o.depth (get_or coins 0 0) (maps.leaves o.below) (row_of store o) w.ordered.1 m));
           can = can_go_on (turn_of draining coins (did x)) (tt, p.right);
         }
 

@@ -8,9 +8,9 @@ use Rattle.posmap.specs.Flat.{flat_leaves}
 use Rattle.posmap.specs.Maps.{swap_refusal, drain_refusal, leaf_numbers}
 
 -- coins as leaves and as numbers are as many
-pub leaf-count : (ms : List Leaf) → length (leaf_numbers ms) ≡ length ms
-leaf-count [] = refl
-leaf-count (m ∷ ms) = ap suc (leaf-count ms)
+pub leaf_count : (ms : List Leaf) → length (leaf_numbers ms) ≡ length ms
+leaf_count [] = refl
+leaf_count (m ∷ ms) = ap suc (leaf_count ms)
 
 -- a swap of no number, with coins, of a wide leaf, and one that is accepted
 pub refuses_number : (leaves coins : List ℕ) (i new : ℕ) → length leaves ≤ i
@@ -41,11 +41,11 @@ swaps_within leaves coins i new h = go (cases_lt i (length leaves))
     go (inr g) = let e = h ∙ refuses_number leaves coins i new g in let z : ◌≡◌ {A = ℕ} 0 1 = cc in absurd (omega arith)
 
 -- a drain with coins, and one with none
-pub drain-coins : (coins : List ℕ) → (length coins ≡ 0 → ⊥) → drain_refusal [] None coins ≡ Some (record { number = 5; row = 0 })
-drain-coins coins k = let b = ne_eqb (length coins) 0 k in rw b
+pub drain_coins : (coins : List ℕ) → (length coins ≡ 0 → ⊥) → drain_refusal [] None coins ≡ Some (record { number = 5; row = 0 })
+drain_coins coins k = let b = ne_eqb (length coins) 0 k in rw b
 
-pub accepts-drain : (coins : List ℕ) → length coins ≡ 0 → drain_refusal [] None coins ≡ None
-accepts-drain coins k = let b = eq-eqb (length coins) 0 k in rw b
+pub accepts_drain : (coins : List ℕ) → length coins ≡ 0 → drain_refusal [] None coins ≡ None
+accepts_drain coins k = let b = eq-eqb (length coins) 0 k in rw b
 
 -- the table is longer than the map, so the first of its leaves are all there
 pub leaves_long : (s : FlatMap) → length (flat_leaves s) ≡ s.len

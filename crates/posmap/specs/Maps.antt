@@ -166,15 +166,15 @@ entry_refusal rows r k = unless (nat_lt k (length (row_at rows r).log)) (record 
 pub record MapFacts (ordered : Type 0) (leaves : List ℕ) (rows : List MapRow) (unfit full : Option ℕ) : Type 0 where
   -- unfit and full name rows that exist
   pub unfit_named : Names unfit rows
-  pub full-named : Names full rows
+  pub full_named : Names full rows
   -- with nothing unfit, each row has an own leaf for each number that it can be asked
-  pub own-leaves : unfit ≡ None → OwnLeaves (length leaves) rows
+  pub own_leaves : unfit ≡ None → OwnLeaves (length leaves) rows
   -- of one in order: a full row has more than 31 own leaves
   pub small_never_full : ordered → IfSome full (λ r. capacity ≤ length (row_at rows r).own)
 
 -- what no call changes: the length, the depth, count of own leaves and span of each row, and the unfit row
 pub record SameFrame (leaves leaves' : List ℕ) (rows rows' : List MapRow) (unfit unfit' : Option ℕ) : Type 0 where
-  pub length-stays : length leaves' ≡ length leaves
+  pub length_stays : length leaves' ≡ length leaves
   pub rows_stay : fixed_of rows' ≡ fixed_of rows
   pub unfit_stays : unfit' ≡ unfit
 
@@ -182,13 +182,13 @@ pub record SameFrame (leaves leaves' : List ℕ) (rows rows' : List MapRow) (unf
 pub record SameMeaning (leaves leaves' : List ℕ) (rows rows' : List MapRow) (full full' : Option ℕ) : Type 0 where
   pub leaves_stay : leaves' ≡ leaves
   pub rows_stay : rows' ≡ rows
-  pub full-stays : full' ≡ full
+  pub full_stays : full' ≡ full
 
 -- what an accepted swap answers and does, of a map in order
 pub record SwapDone (leaves leaves' : List ℕ) (rows rows' : List MapRow) (i new : ℕ) (coins : List ℕ) (answer : ℕ) : Type 0 where
   pub shown : answer ≡ slice_index leaves i
   pub sets_leaf : leaves' ≡ slice_set leaves i new
-  pub rows-asked : rows' ≡ rows_swapped rows i coins
+  pub rows_asked : rows' ≡ rows_swapped rows i coins
 
 -- what an accepted drain does, of a map in order
 pub record DrainDone (leaves leaves' : List ℕ) (rows rows' : List MapRow) (coins : List ℕ) : Type 0 where

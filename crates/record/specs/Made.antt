@@ -41,9 +41,9 @@ six_back ws long low high rates wheel =
     let l = low_fits 32 (slice_index ws 0) in
     let a = low_packed 32 _ (low_part 32 (slice_index ws 1)) l ∙ low_same 32 _ low in
     let b = high_packed 32 _ (low_part 32 (slice_index ws 1)) l ∙ low_same 32 _ high in
-    same-words a b (packed_cut 16 _ rates) (packed_cut 16 _ wheel)
+    same_words a b (packed_cut 16 _ rates) (packed_cut 16 _ wheel)
     ∙ ap (λ (us : List ℕ). us ++ (0 ∷ 0 ∷ [])) (words_from_part 6 0 ws long)
   where
-    same-words : {a b c d a' b' c' d' e f : ℕ} → a ≡ a' → b ≡ b' → c ≡ c' → d ≡ d'
+    same_words : {a b c d a' b' c' d' e f : ℕ} → a ≡ a' → b ≡ b' → c ≡ c' → d ≡ d'
         → ◌≡◌ {A = List ℕ} (a ∷ b ∷ c ∷ d ∷ e ∷ f ∷ 0 ∷ 0 ∷ []) (a' ∷ b' ∷ c' ∷ d' ∷ e ∷ f ∷ 0 ∷ 0 ∷ [])
-    same-words p q r s = cc
+    same_words p q r s = cc

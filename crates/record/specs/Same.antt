@@ -23,6 +23,6 @@ same_calibration x y tag coefficient constant circumference bay odometer day i =
   bay_fits = is_prop→PathP (λ j. bay j < 2 ^ 16) (λ j. le_prop) x.bay_fits y.bay_fits i;
 }
 
-pub same-page : (x y : LeafPage) → x.leaves ≡ y.leaves → x ≡ y
-same-page x y leaves i =
+pub same_page : (x y : LeafPage) → x.leaves ≡ y.leaves → x ≡ y
+same_page x y leaves i =
     record { leaves = leaves i; eight = is_prop→PathP (λ j. length (leaves j) ≡ 8) (λ j. ℕ_set _ _) x.eight y.eight i }

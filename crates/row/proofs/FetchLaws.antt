@@ -9,7 +9,7 @@ use Rattle.tree.specs.Paths.{path}
 use Rattle.tree.specs.Places.{taken, without}
 use Rattle.tree.proofs.PathLaws.{path_positive, path_rises}
 use Rattle.steps.specs.Steps.{Buckets, bucket, cleared_to, found_to, or_else, with_bucket}
-use Rattle.steps.proofs.Rest.{cleared-rest}
+use Rattle.steps.proofs.Rest.{cleared_rest}
 
 or_is : {X : Type 0} (a b : Option X) → option_or a b ≡ or_else a b
 or_is None b = refl
@@ -30,14 +30,14 @@ pub record PathFetched (D n m layers : ℕ) (b c : Buckets) (l k : List ℕ) (bl
   pub holds : c ≡ cleared_to D n m b layers
   pub enters : k ≡ l ++ fetch_to D m layers
 
-pub fetch-none : (D n m : ℕ) (b : Buckets) (l : List ℕ) → PathFetched D n m 0 b b l l None
-fetch-none D n m b l = record { answer = refl; holds = refl; enters = sym (append-nil l) }
+pub fetch_none : (D n m : ℕ) (b : Buckets) (l : List ℕ) → PathFetched D n m 0 b b l l None
+fetch_none D n m b l = record { answer = refl; holds = refl; enters = sym (append-nil l) }
 
 -- the next bucket holds what it held when the fetch began
 fetch_fresh : (D n m layer : ℕ) (b : Buckets) → layer ≤ D
     → bucket (cleared_to D n m b layer) (path D m layer) ≡ bucket b (path D m layer)
 fetch_fresh D n m layer b h =
-    cleared-rest D n m b (path D m layer) (path_positive D m layer) layer (λ d g e. omega (arith, path_rises D m d layer g h))
+    cleared_rest D n m b (path D m layer) (path_positive D m layer) layer (λ d g e. omega (arith, path_rises D m d layer g h))
 
 pub fetch_more : (D n m layer v : ℕ) (b c d : Buckets) (l k j : List ℕ) (block more : Option Block) → layer ≤ D
     → v ≡ path D m layer → PathFetched D n m layer b c l k block → more ≡ taken n (bucket c v)

@@ -25,14 +25,14 @@ pub flush_one : (D m d : ℕ) {u v s t : ℕ} {b c e : Buckets} (hand : List Pla
 flush_one D m d hand t s c kid up next e = (next ∙ rw (kid, t) refl, e ∙ rw (s, c, up, kid, t) refl)
 
 -- the root has been read
-pub flush-none : (D m v : ℕ) (b : Buckets) {c : Buckets} (l : List ℕ) {k : List ℕ} {hand : List Place} → v ≡ path D m 0 → c ≡ b
+pub flush_none : (D m v : ℕ) (b : Buckets) {c : Buckets} (l : List ℕ) {k : List ℕ} {hand : List Place} → v ≡ path D m 0 → c ≡ b
     → hand ≡ bucket b v → k ≡ l ++ v ∷ [] → PathFlushed D m 0 b c l k hand
-flush-none D m v b l is e f enters = record { holds = rw (e, f, is) (set-get_or b (path D m 0 - 1) []); enters = rw is at enters }
+flush_none D m v b l is e f enters = record { holds = rw (e, f, is) (set-get_or b (path D m 0 - 1) []); enters = rw is at enters }
 
 -- the last bucket has been written
-pub flush-all : (D m v : ℕ) (b c d : Buckets) (l k j : List ℕ) (hand : List Place) → v ≡ path D m D → PathFlushed D m D b c l k hand
+pub flush_all : (D m v : ℕ) (b c d : Buckets) (l k j : List ℕ) (hand : List Place) → v ≡ path D m D → PathFlushed D m D b c l k hand
     → d ≡ with_bucket c v hand → j ≡ k ++ v ∷ [] → (d ≡ flushed_to D m b D) × (j ≡ l ++ flush_entries D m)
-flush-all D m v b c d l k j hand is so holds enters = (
+flush_all D m v b c d l k j hand is so holds enters = (
   holds ∙ (ap (λ x. with_bucket c x hand) is ∙ so.holds),
   enters ∙ rw (is, so.enters) (append_assoc l (flush_to D m D) (path D m D ∷ [])),
 )

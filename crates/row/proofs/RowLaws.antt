@@ -23,13 +23,13 @@ same_row {b} {c} {q} {r} e f =
     ap (λ (x : Buckets). record { buckets = x; queue = q }) e ∙ ap (λ (x : List Block). record { buckets = c; queue = x }) f
 
 -- a leaf of a tree is below 2 ^ D
-pub leaf-below : (D m : ℕ) → is_leaf D m ≡ true → m < 2 ^ D
-leaf-below D m h = ltb-true m (2 ^ D) (and_parts (is_depth D) (ltb m (2 ^ D)) h).1
+pub leaf_below : (D m : ℕ) → is_leaf D m ≡ true → m < 2 ^ D
+leaf_below D m h = ltb-true m (2 ^ D) (and_parts (is_depth D) (ltb m (2 ^ D)) h).1
 
 -- a store with enough buckets has each bucket of the path
 pub path_there : (D m d count : ℕ) → is_leaf D m ≡ true → d ≤ D → tree_buckets D ≤ count → path D m d ≤ count
 path_there D m d count h k fits =
-    let high = path_high D m d (leaf-below D m h) k in
+    let high = path_high D m d (leaf_below D m h) k in
     let wide : 2 ^ suc d ≤ 2 ^ (D + 1) = pow_mono (omega arith) in
     omega arith
 

@@ -49,7 +49,7 @@ module _ {K S P F : Type 0} (kind : KindMeaning K) (store : StoreMeaning S) (map
   region_kept N Ds ss o os (begins b) r = r
   region_kept N Ds ss o os (goes_on {o = x} {os = xs} d run) r =
       let h = region_kept N Ds _ x xs run r in
-      (d.frame.rows.length-stays ∙ h.0, same_depths (rows_of store maps x) (rows_of store maps o) d.frame.rows.rows_stay ∙ h.1)
+      (d.frame.rows.length_stays ∙ h.0, same_depths (rows_of store maps x) (rows_of store maps o) d.frame.rows.rows_stay ∙ h.1)
 
   -- and the whole shape
   pub shaped_kept : (N : ℕ) (rows : List (ℕ × ℕ × ℕ)) (unfit : Option ℕ) (ss : List (Step K)) (o : Oram K S P) (os : List (Oram K S P))
@@ -57,21 +57,21 @@ module _ {K S P F : Type 0} (kind : KindMeaning K) (store : StoreMeaning S) (map
   shaped_kept N rows unfit ss o os (begins b) r = r
   shaped_kept N rows unfit ss o os (goes_on {o = x} {os = xs} d run) r =
       let h = shaped_kept N rows unfit _ x xs run r in
-      (d.frame.rows.length-stays ∙ h.0, d.frame.rows.rows_stay ∙ h.1, d.frame.rows.unfit_stays ∙ h.2)
+      (d.frame.rows.length_stays ∙ h.0, d.frame.rows.rows_stay ∙ h.1, d.frame.rows.unfit_stays ∙ h.2)
 
   -- every accepted turn is one that can be accepted
-  latest-can : (N : ℕ) (Ds : List ℕ) (ss : List (Step K)) (o : Oram K S P) (os : List (Oram K S P)) → Run kind store maps ss (o ∷ os)
+  latest_can : (N : ℕ) (Ds : List ℕ) (ss : List (Step K)) (o : Oram K S P) (os : List (Oram K S P)) → Run kind store maps ss (o ∷ os)
       → Began (Region store maps N Ds) (o ∷ os) → AllCan N Ds (history_of ss)
-  latest-can N Ds ss o os run b =
+  latest_can N Ds ss o os run b =
       let r = region_kept N Ds ss o os run b in
       let Q : ℕ → Type 0 = λ n. AllCan n Ds (history_of ss) in
       let T : List ℕ → Type 0 = λ ds. AllCan (records_of maps o) ds (history_of ss) in
       subst Q r.0 (subst T r.1 (latest_works kind store maps again ss o os run).can)
 
-  pub run-can : (N : ℕ) (Ds : List ℕ) (ss : List (Step K)) (os : List (Oram K S P)) → Run kind store maps ss os
+  pub run_can : (N : ℕ) (Ds : List ℕ) (ss : List (Step K)) (os : List (Oram K S P)) → Run kind store maps ss os
       → Began (Region store maps N Ds) os → AllCan N Ds (history_of ss)
-  run-can N Ds ss [] run b = absurd b
-  run-can N Ds ss (o ∷ os) run b = latest-can N Ds ss o os run b
+  run_can N Ds ss [] run b = absurd b
+  run_can N Ds ss (o ∷ os) run b = latest_can N Ds ss o os run b
 
   -- prescribed
   pub logs_are_prescribed : LogsArePrescribed kind store maps
@@ -84,10 +84,10 @@ module _ {K S P F : Type 0} (kind : KindMeaning K) (store : StoreMeaning S) (map
       go (s ∷ ss) (q ∷ qs) w = (w.0.logs, go ss qs w.1)
 
   -- equal prescribed logs are equal logs
-  same-logs : (N : ℕ) (Ds : List ℕ) (h g : History K) (o p : Oram K S P) → Worked kind store maps h o → Worked kind store maps g p
+  same_logs : (N : ℕ) (Ds : List ℕ) (h g : History K) (o p : Oram K S P) → Worked kind store maps h o → Worked kind store maps g p
       → Region store maps N Ds o → Region store maps N Ds p → ((r D : ℕ) → r < length Ds → prescribed_log D r h ≡ prescribed_log D r g)
       → logs_of store maps o ≡ logs_of store maps p
-  same-logs N Ds h g o p w v a b e =
+  same_logs N Ds h g o p w v a b e =
       let m = length-map (rows_of store maps o) (λ row. row.depth) in
       let n = length-map (rows_of store maps p) (λ row. row.depth) in
       let ea = ap length a.1 in
@@ -104,11 +104,11 @@ module _ {K S P F : Type 0} (kind : KindMeaning K) (store : StoreMeaning S) (map
       → ((j r D : ℕ) → r < length Ds → prescribed_log D r (drop j (history_of ss)) ≡ prescribed_log D r (drop j (history_of ts)))
       → Pairwise (λ o p. logs_of store maps o ≡ logs_of store maps p) os ps
   all_same_logs N Ds ss ts os ps (begins {o = o} x) (begins {o = p} y) b c e h =
-      (same-logs N Ds [] [] o p (latest_works kind store maps again [] o [] (begins x)) (latest_works kind store maps again [] p [] (begins y)) b c (λ r D l. refl), tt)
+      (same_logs N Ds [] [] o p (latest_works kind store maps again [] o [] (begins x)) (latest_works kind store maps again [] p [] (begins y)) b c (λ r D l. refl), tt)
   all_same_logs N Ds ss ts os ps (begins x) (goes_on d q) b c e h = absurd (let z : ◌≡◌ {A = ℕ} 0 1 = cc in let n : ⊥ = omega arith in n)
   all_same_logs N Ds ss ts os ps (goes_on d q) (begins y) b c e h = absurd (let z : ◌≡◌ {A = ℕ} 0 1 = cc in let n : ⊥ = omega arith in n)
   all_same_logs N Ds ss ts os ps (goes_on {s = s} {steps = ss'} {o = x} {o' = o} {os = xs} d q) (goes_on {s = t} {steps = ts'} {o = y} {o' = p} {os = ys} f u) b c e h = (
-    same-logs N Ds (history_of (s ∷ ss')) (history_of (t ∷ ts')) o p (latest_works kind store maps again (s ∷ ss') o (x ∷ xs) (goes_on d q))
+    same_logs N Ds (history_of (s ∷ ss')) (history_of (t ∷ ts')) o p (latest_works kind store maps again (s ∷ ss') o (x ∷ xs) (goes_on d q))
         (latest_works kind store maps again (t ∷ ts') p (y ∷ ys) (goes_on f u)) (region_kept N Ds (s ∷ ss') o (x ∷ xs) (goes_on d q) b)
         (region_kept N Ds (t ∷ ts') p (y ∷ ys) (goes_on f u) c) (h 0),
     all_same_logs N Ds ss' ts' (x ∷ xs) (y ∷ ys) q u b c (cons_both {xs = accepted_in (history_of ss')} {ys = accepted_in (history_of ts')} e).1 (λ j. h (suc j)),

@@ -16,15 +16,15 @@ use Rattle.oram.specs.Calls.{Does, Outcome, refused, did, is_done, refusal_in, r
 use Rattle.oram.specs.Orams.{depths_of, full_of, records_of, rows_of, unfit_of}
 use Rattle.oram.specs.Runs.{Run, begins, goes_on, Step, history_of}
 use Rattle.oram.specs.Worked.{Small, Worked, moves_by, turn_of}
-use Rattle.oram.proofs.Accepts.{never_eight, small-room}
+use Rattle.oram.proofs.Accepts.{never_eight, small_room}
 use Rattle.oram.proofs.Runs.{latest_works}
 use Rattle.oram.proofs.Works.{depths_fixed, same_depths}
 use Rattle.runs.specs.Pairs.{Began, ByEight, NamesBelow, Region, Shaped, SmallRows, counted_by}
 use Rattle.runs.specs.Secrecy.{DifferByEightOnly, Matched, Relabelled, SmallNeverDiffers}
-use Rattle.runs.proofs.Along.{counted_same, run-can, shaped_kept}
+use Rattle.runs.proofs.Along.{counted_same, run_can, shaped_kept}
 use Rattle.runs.proofs.Equal.{equal}
 use Rattle.runs.proofs.Ready.{Ready, accepted_ready, ready_eight}
-use Rattle.runs.proofs.Turns.{accepted-right, drop-map, drop_more, opened-alike, refused-same}
+use Rattle.runs.proofs.Turns.{accepted_right, drop-map, drop_more, opened_alike, refused_same}
 
 -- what is fixed of each row
 fixed_at : (rows rows' : List MapRow) → fixed_of rows' ≡ fixed_of rows → (r : ℕ)
@@ -82,11 +82,11 @@ counted_calls [] (u ∷ g) e = absurd (let n : ⊥ = omega arith in n)
 counted_calls (t ∷ h) [] e = absurd (let n : ⊥ = omega arith in n)
 counted_calls (t ∷ h) (u ∷ g) e = ap (λ cs. u.call ∷ cs) (counted_calls h g (omega arith))
 
-counted-turns : {R : Type 0} (h g : History R) → length h ≡ length g → accepted_in h ≡ accepted_in (counted_by h g)
-counted-turns [] [] e = refl
-counted-turns [] (u ∷ g) e = absurd (let n : ⊥ = omega arith in n)
-counted-turns (t ∷ h) [] e = absurd (let n : ⊥ = omega arith in n)
-counted-turns (t ∷ h) (u ∷ g) e = ap (λ bs. t.accepted ∷ bs) (counted-turns h g (omega arith))
+counted_turns : {R : Type 0} (h g : History R) → length h ≡ length g → accepted_in h ≡ accepted_in (counted_by h g)
+counted_turns [] [] e = refl
+counted_turns [] (u ∷ g) e = absurd (let n : ⊥ = omega arith in n)
+counted_turns (t ∷ h) [] e = absurd (let n : ⊥ = omega arith in n)
+counted_turns (t ∷ h) (u ∷ g) e = ap (λ bs. t.accepted ∷ bs) (counted_turns h g (omega arith))
 
 small_of : (rows : List MapRow) (fixed : List (ℕ × ℕ × ℕ)) → fixed_of rows ≡ fixed → SmallRows fixed → Small rows
 small_of [] fixed e h = tt
@@ -134,7 +134,7 @@ module _ {K S P F : Type 0} (kind : KindMeaning K) (store : StoreMeaning S) (map
         fit = b.2 ∙ (sym a.2 ∙ ready.fit);
         in_time =
             subst (λ k. InTime k s m p.opened) (a.0 ∙ sym b.0)
-            (time_moves (records_of maps o) s n m o.opened p.opened (w.opened ∙ (opened-alike h g alike acc ∙ sym v.opened))
+            (time_moves (records_of maps o) s n m o.opened p.opened (w.opened ∙ (opened_alike h g alike acc ∙ sym v.opened))
             (λ e. let l = below e in rw a.0 l) ready.in_time);
         right = right;
         free = λ r l.
@@ -178,27 +178,27 @@ module _ {K S P F : Type 0} (kind : KindMeaning K) (store : StoreMeaning S) (map
     shaped_region o s = (s.0, depths_fixed (rows_of store maps o) ∙ ap (map (λ f. f.0)) s.1)
 
     pub first_region : Began (Region store maps N Ds) os
-    first_region = began_as (Shaped store maps N rows unfit) (Region store maps N Ds) shaped_region os m.first-began
+    first_region = began_as (Shaped store maps N rows unfit) (Region store maps N Ds) shaped_region os m.first_began
 
     pub second_region : Began (Region store maps N Ds) ps
-    second_region = began_as (Shaped store maps N rows unfit) (Region store maps N Ds) shaped_region ps m.second-began
+    second_region = began_as (Shaped store maps N rows unfit) (Region store maps N Ds) shaped_region ps m.second_began
 
     side : history.SideBySide K N Ds h (counted_by h g)
     side =
         let long = alike_long h g m.alike in
         record {
           alike = m.alike ∙ ap (map sort) (sym (counted_calls h g long));
-          turns = counted-turns h g long;
-          first-can = run-can kind store maps again N Ds ss os m.first first_region;
+          turns = counted_turns h g long;
+          first_can = run_can kind store maps again N Ds ss os m.first first_region;
         }
 
     module _ (j : ℕ) (s t : Step K) (before before' : List (Step K)) (es : drop j ss ≡ s ∷ before) (et : drop j ts ≡ t ∷ before')
         (acc : accepted_in (history_of before) ≡ accepted_in (history_of before')) where
       a : At (Shaped store maps N rows unfit) s before
-      a = run_at (Shaped store maps N rows unfit) ss os m.first m.first-began j s before es
+      a = run_at (Shaped store maps N rows unfit) ss os m.first m.first_began j s before es
 
       b : At (Shaped store maps N rows unfit) t before'
-      b = run_at (Shaped store maps N rows unfit) ts ps m.second m.second-began j t before' et
+      b = run_at (Shaped store maps N rows unfit) ts ps m.second m.second_began j t before' et
 
       eh : drop j h ≡ turn_of s.call s.coins s.outcome ∷ history_of before
       eh = drop-map (λ x. turn_of x.call x.coins x.outcome) j ss ∙ ap history_of es
@@ -217,8 +217,8 @@ module _ {K S P F : Type 0} (kind : KindMeaning K) (store : StoreMeaning S) (map
       sort_is_same : sort s.call ≡ sort t.call
       sort_is_same = cons_head sorts
 
-      alike-before : Alike (calls_of (history_of before)) (calls_of (history_of before'))
-      alike-before = cons_tail sorts
+      alike_before : Alike (calls_of (history_of before)) (calls_of (history_of before'))
+      alike_before = cons_tail sorts
 
       shaped : Shaped store maps N rows unfit a.o
       shaped = shaped_kept kind store maps again N rows unfit before a.o a.os a.run a.began
@@ -232,45 +232,45 @@ module _ {K S P F : Type 0} (kind : KindMeaning K) (store : StoreMeaning S) (map
       worked' : Worked kind store maps (history_of before') b.o
       worked' = latest_works kind store maps again before' b.o b.os b.run
 
-      second-asks : sort t.call ≡ asks → named t.call < N
-      second-asks =
+      second_asks : sort t.call ≡ asks → named t.call < N
+      second_asks =
           names_asked N t.call
           (all_at (NamesBelow N) (calls_of g) m.second_names j t.call (calls_of (history_of before')) (drop-map (λ x. x.call) j g ∙ ap calls_of eg))
 
-      first-asks : sort s.call ≡ asks → named s.call < N
-      first-asks =
+      first_asks : sort s.call ≡ asks → named s.call < N
+      first_asks =
           names_asked N s.call
           (all_at (NamesBelow N) (calls_of h) m.first_names j s.call (calls_of (history_of before)) (drop-map (λ x. x.call) j h ∙ ap calls_of eh))
 
       -- the first accepts, the second refuses
-      second-eight : (c : Card) → is_done s.outcome ≡ true → None ≡ refusal_of store maps a.o s.call s.coins
+      second_eight : (c : Card) → is_done s.outcome ≡ true → None ≡ refusal_of store maps a.o s.call s.coins
           → Some c ≡ refusal_of store maps b.o t.call t.coins → c.number ≡ 8
-      second-eight c acc-s e f =
+      second_eight c acc-s e f =
           let not-torn : sort s.call ≡ tears → ⊥ = λ x. never_torn t.call t.coins b.o c f (sym sort_is_same ∙ x) in
           let ready = accepted_ready store maps a.o s.coins s.call not-torn (sym e) in
-          let right = accepted-right N Ds h g side m.relabelled j _ _ (history_of before) (history_of before') eh eg acc-s in
+          let right = accepted_right N Ds h g side m.relabelled j _ _ (history_of before) (history_of before') eh eg acc-s in
           let T : Sort → Type 0 = λ x. Ready store maps x (named t.call) t.coins b.o in
           other_eight t.call t.coins b.o c f
           (subst T sort_is_same
-          (ready_moves N rows unfit (history_of before) (history_of before') a.o b.o worked worked' shaped shaped' alike-before acc (sort s.call)
-          (named s.call) (named t.call) s.coins t.coins (λ x. second-asks (sym sort_is_same ∙ x))
+          (ready_moves N rows unfit (history_of before) (history_of before') a.o b.o worked worked' shaped shaped' alike_before acc (sort s.call)
+          (named s.call) (named t.call) s.coins t.coins (λ x. second_asks (sym sort_is_same ∙ x))
           (subst (λ ds. RightCoins (sort s.call) ds t.coins) (sym (shaped_region b.o shaped').1) right) ready))
 
       -- the second accepts, the first refuses
-      first-eight : (c : Card) → is_done s.outcome ≡ false → None ≡ refusal_of store maps b.o t.call t.coins
+      first_eight : (c : Card) → is_done s.outcome ≡ false → None ≡ refusal_of store maps b.o t.call t.coins
           → Some c ≡ refusal_of store maps a.o s.call s.coins → c.number ≡ 8
-      first-eight c ref-s e f =
+      first_eight c ref-s e f =
           let not-torn : sort t.call ≡ tears → ⊥ = λ x. never_torn s.call s.coins a.o c f (sort_is_same ∙ x) in
           let ready = accepted_ready store maps b.o t.coins t.call not-torn (sym e) in
-          let coins = refused-same N Ds h g side m.relabelled j _ _ (history_of before) (history_of before') eh eg ref-s in
+          let coins = refused_same N Ds h g side m.relabelled j _ _ (history_of before) (history_of before') eh eg ref-s in
           let right : RightCoins (sort t.call) (depths_of store maps a.o) s.coins =
           subst (λ ds. RightCoins (sort t.call) ds s.coins) ((shaped_region b.o shaped').1 ∙ sym (shaped_region a.o shaped).1)
           (subst (RightCoins (sort t.call) (depths_of store maps b.o)) coins ready.right) in
           let T : Sort → Type 0 = λ x. Ready store maps x (named s.call) s.coins a.o in
           other_eight s.call s.coins a.o c f
           (subst T (sym sort_is_same)
-          (ready_moves N rows unfit (history_of before') (history_of before) b.o a.o worked' worked shaped' shaped (sym alike-before) (sym acc) (sort t.call)
-          (named t.call) (named s.call) t.coins s.coins (λ x. first-asks (sort_is_same ∙ x)) right ready))
+          (ready_moves N rows unfit (history_of before') (history_of before) b.o a.o worked' worked shaped' shaped (sym alike_before) (sym acc) (sort t.call)
+          (named t.call) (named s.call) t.coins s.coins (λ x. first_asks (sort_is_same ∙ x)) right ready))
 
       pub differ_at : (is_done s.outcome ≡ is_done t.outcome → ⊥) → ByEight s.outcome × ByEight t.outcome
       differ_at ne = go s.outcome t.outcome refl refl
@@ -280,10 +280,10 @@ module _ {K S P F : Type 0} (kind : KindMeaning K) (store : StoreMeaning S) (map
           go (refused c) (refused d) e f = absurd (ne (ap is_done e ∙ sym (ap is_done f)))
           go (did x) (refused d) e f = (
             tt,
-            second-eight d (ap is_done e) (sym (ap refusal_in e) ∙ a.does.refusal) (sym (ap refusal_in f) ∙ b.does.refusal),
+            second_eight d (ap is_done e) (sym (ap refusal_in e) ∙ a.does.refusal) (sym (ap refusal_in f) ∙ b.does.refusal),
           )
           go (refused c) (did y) e f = (
-            first-eight c (ap is_done e) (sym (ap refusal_in f) ∙ b.does.refusal) (sym (ap refusal_in e) ∙ a.does.refusal),
+            first_eight c (ap is_done e) (sym (ap refusal_in f) ∙ b.does.refusal) (sym (ap refusal_in e) ∙ a.does.refusal),
             tt,
           )
 
@@ -292,7 +292,7 @@ module _ {K S P F : Type 0} (kind : KindMeaning K) (store : StoreMeaning S) (map
       small_agree small = go s.outcome t.outcome refl refl
         where
           room : (o : Oram K S P) (k : History K) → Worked kind store maps k o → Shaped store maps N rows unfit o → full_of maps o ≡ None
-          room o k w x = small-room store maps s.coins o w.ordered (small_of (rows_of store maps o) rows x.1 small)
+          room o k w x = small_room store maps s.coins o w.ordered (small_of (rows_of store maps o) rows x.1 small)
 
           go : (x y : Outcome K) → s.outcome ≡ x → t.outcome ≡ y → is_done s.outcome ≡ is_done t.outcome
           go (did x) (did y) e f = ap is_done e ∙ sym (ap is_done f)
@@ -300,11 +300,11 @@ module _ {K S P F : Type 0} (kind : KindMeaning K) (store : StoreMeaning S) (map
           go (did x) (refused d) e f =
               let q = sym (ap refusal_in f) ∙ b.does.refusal in
               absurd (never_eight store maps t.coins b.o t.call (room b.o (history_of before') worked' shaped') d (sym q)
-              (second-eight d (ap is_done e) (sym (ap refusal_in e) ∙ a.does.refusal) q))
+              (second_eight d (ap is_done e) (sym (ap refusal_in e) ∙ a.does.refusal) q))
           go (refused c) (did y) e f =
               let q = sym (ap refusal_in e) ∙ a.does.refusal in
               absurd (never_eight store maps s.coins a.o s.call (room a.o (history_of before) worked shaped) c (sym q)
-              (first-eight c (ap is_done e) (sym (ap refusal_in f) ∙ b.does.refusal) q))
+              (first_eight c (ap is_done e) (sym (ap refusal_in f) ∙ b.does.refusal) q))
 
     -- from turn j on, down to the first
     agree : SmallRows rows → (xs ys : List (Step K)) (j : ℕ) → drop j ss ≡ xs → drop j ts ≡ ys → length xs ≡ length ys
@@ -335,8 +335,8 @@ module _ {K S P F : Type 0} (kind : KindMeaning K) (store : StoreMeaning S) (map
             (record {
               first = m.first;
               second = m.second;
-              first-began = first_region N rows unfit ss ts os ps m;
-              second-began = second_region N rows unfit ss ts os ps m;
+              first_began = first_region N rows unfit ss ts os ps m;
+              second_began = second_region N rows unfit ss ts os ps m;
               alike = m.alike;
               relabelled = m.relabelled;
             }) e,

@@ -14,12 +14,12 @@ use Rattle.oram.proofs.Accepts.{drain_passes, swap_full}
 use Rattle.oram.proofs.Passed.{both_none, drain_passed, none_named, swap_passed, test_passed}
 
 -- every log has the entries free
-logs-free : (moves : ℕ → ℕ) (q : ℕ) (rows : List MapRow) → log_refusal moves q rows ≡ None → (r : ℕ) → r < length rows
+logs_free : (moves : ℕ → ℕ) (q : ℕ) (rows : List MapRow) → log_refusal moves q rows ≡ None → (r : ℕ) → r < length rows
     → length (row_at rows r).log + moves (row_at rows r).depth ≤ (row_at rows r).span
-logs-free moves q [] e r l = absurd (let n : ⊥ = omega arith in n)
-logs-free moves q (row ∷ rows) e r l =
+logs_free moves q [] e r l = absurd (let n : ⊥ = omega arith in n)
+logs_free moves q (row ∷ rows) e r l =
     let t = both_none (unless (leb (length row.log + moves row.depth) row.span) _) (log_refusal moves (suc q) rows) e in
-    go r l (leb-true _ _ (test_passed _ _ t.0)) (logs-free moves (suc q) rows t.1)
+    go r l (leb-true _ _ (test_passed _ _ t.0)) (logs_free moves (suc q) rows t.1)
   where
     go : (k : ℕ) → k < length (row ∷ rows) → length row.log + moves row.depth ≤ row.span
         → ((i : ℕ) → i < length rows → length (row_at rows i).log + moves (row_at rows i).depth ≤ (row_at rows i).span)
@@ -47,7 +47,7 @@ module _ {K S P F : Type 0} (store : StoreMeaning S) (maps : MapMeaning P F) whe
           fit = p.fit;
           in_time = (eqb-true _ _ (test_passed _ _ t2.1), p.number);
           right = p.right;
-          free = logs-free request_moves 0 (rows_of store maps o) p.free;
+          free = logs_free request_moves 0 (rows_of store maps o) p.free;
         }
 
     pub accepted_ready : (call : Call K) → (sort call ≡ tears → ⊥) → refusal_of store maps o call coins ≡ None → Ready (sort call) (named call) coins o
@@ -55,12 +55,12 @@ module _ {K S P F : Type 0} (store : StoreMeaning S) (maps : MapMeaning P F) whe
         let t1 = both_none (naming 1 (unfit_of store maps o)) _ e in
         let t4 = both_none (open_time (records_of maps o) o.opened) _ t1.1 in
         let p = swap_passed (maps.leaves o.below) (rows_of store maps o) (unfit_of store maps o) (full_of maps o) o.opened 0 coins t4.1 in
-        record { fit = p.fit; in_time = p.number; right = p.right; free = logs-free request_moves 0 (rows_of store maps o) p.free }
+        record { fit = p.fit; in_time = p.number; right = p.right; free = logs_free request_moves 0 (rows_of store maps o) p.free }
     accepted_ready (getting n) f e = ask_ready n e
     accepted_ready (putting n x) f e = ask_ready n e
     accepted_ready draining f e =
         let p = drain_passed (rows_of store maps o) (unfit_of store maps o) coins e in
-        record { fit = p.fit; in_time = tt; right = p.right; free = logs-free drain_moves 0 (rows_of store maps o) p.free }
+        record { fit = p.fit; in_time = tt; right = p.right; free = logs_free drain_moves 0 (rows_of store maps o) p.free }
     accepted_ready tearing f e = absurd (f refl)
 
     -- no refusal of two
@@ -77,9 +77,9 @@ module _ {K S P F : Type 0} (store : StoreMeaning S) (maps : MapMeaning P F) whe
     abbrev Eight : Option Card → Type 0
     Eight r = IfSome r (λ c. c.number ≡ 8)
 
-    eight-named : (full : Option ℕ) → Eight (naming 8 full)
-    eight-named None = tt
-    eight-named (Some r) = refl
+    eight_named : (full : Option ℕ) → Eight (naming 8 full)
+    eight_named None = tt
+    eight_named (Some r) = refl
 
     pub ready_eight : (call : Call K) → Ready (sort call) (named call) coins o → Eight (refusal_of store maps o call coins)
     ready_eight opening a =
@@ -87,9 +87,9 @@ module _ {K S P F : Type 0} (store : StoreMeaning S) (maps : MapMeaning P F) whe
         none_or (ap (naming 1) a.fit)
         (none_or (rw (lt-ltb o.opened (records_of maps o) a.in_time) refl)
         (swap_full (maps.leaves o.below) (rows_of store maps o) (unfit_of store maps o) (full_of maps o) o.opened coins a.fit a.in_time a.right a.free)) in
-        rw e (eight-named (full_of maps o))
-    ready_eight (getting n) a = rw (ask_full n a) (eight-named (full_of maps o))
-    ready_eight (putting n x) a = rw (ask_full n a) (eight-named (full_of maps o))
+        rw e (eight_named (full_of maps o))
+    ready_eight (getting n) a = rw (ask_full n a) (eight_named (full_of maps o))
+    ready_eight (putting n x) a = rw (ask_full n a) (eight_named (full_of maps o))
     ready_eight draining a =
         let e = drain_passes (rows_of store maps o) (unfit_of store maps o) coins a.fit a.right a.free in
         rw e tt

@@ -24,18 +24,18 @@ drop-deeds zero h = refl
 drop-deeds (suc j) [] = refl
 drop-deeds (suc j) (t ∷ h) = drop-deeds j h
 
-drop-counted : {R : Type 0} (j : ℕ) (h g : History R) → drop j (counted_by h g) ≡ counted_by (drop j h) (drop j g)
-drop-counted zero h g = refl
-drop-counted (suc j) [] [] = refl
-drop-counted (suc j) [] (u ∷ g) = refl
-drop-counted (suc j) (t ∷ h) [] = go j h
+drop_counted : {R : Type 0} (j : ℕ) (h g : History R) → drop j (counted_by h g) ≡ counted_by (drop j h) (drop j g)
+drop_counted zero h g = refl
+drop_counted (suc j) [] [] = refl
+drop_counted (suc j) [] (u ∷ g) = refl
+drop_counted (suc j) (t ∷ h) [] = go j h
   where
     go : (k : ℕ) (x : History _) → drop (suc k) (counted_by (t ∷ x) []) ≡ counted_by (drop k x) []
     go zero [] = refl
     go zero (y ∷ x) = refl
     go (suc k) [] = refl
     go (suc k) (y ∷ x) = go k x
-drop-counted (suc j) (t ∷ h) (u ∷ g) = drop-counted j h g
+drop_counted (suc j) (t ∷ h) (u ∷ g) = drop_counted j h g
 
 -- what holds of each turn holds of this one
 each_at : (Q : Deed → List ℕ → Type 0) (ds : List Deed) (cs : List (List ℕ)) → EachTurn Q ds cs → (j : ℕ) (d : Deed) (ds' : List Deed)
@@ -87,52 +87,52 @@ stays_at L (Some n ∷ ns) (y ∷ cs) (suc j) ns' c cs' e f = stays_at (λ r. dr
 module _ {R : Type 0} (N : ℕ) (Ds : List ℕ) (h g : History R) (side : SideBySide R N Ds h (counted_by h g))
     (relabelled-are : coins_of g ≡ relabelled_for N h (counted_by h g) (coins_of h)) (j : ℕ) (t u : Turn R) (h₀ g₀ : History R)
     (eh : drop j h ≡ t ∷ h₀) (eg : drop j g ≡ u ∷ g₀) where
-  first-coins : drop j (coins_of h) ≡ t.coins ∷ coins_of h₀
-  first-coins = drop-map (λ x. x.coins) j h ∙ ap coins_of eh
+  first_coins : drop j (coins_of h) ≡ t.coins ∷ coins_of h₀
+  first_coins = drop-map (λ x. x.coins) j h ∙ ap coins_of eh
 
-  second-coins : drop j (coins_of g) ≡ u.coins ∷ coins_of g₀
-  second-coins = drop-map (λ x. x.coins) j g ∙ ap coins_of eg
+  second_coins : drop j (coins_of g) ≡ u.coins ∷ coins_of g₀
+  second_coins = drop-map (λ x. x.coins) j g ∙ ap coins_of eg
 
-  pub accepted-right : t.accepted ≡ true → RightCoins (sort t.call) Ds u.coins
-  accepted-right a =
-      let into = ((relabelling_is_one_to_one R N Ds h (counted_by h g) side).within_range.into (coins_of h) (refl, can_range N Ds h side.first-can)).1 in
+  pub accepted_right : t.accepted ≡ true → RightCoins (sort t.call) Ds u.coins
+  accepted_right a =
+      let into = ((relabelling_is_one_to_one R N Ds h (counted_by h g) side).within_range.into (coins_of h) (refl, can_range N Ds h side.first_can)).1 in
       let r = each_at (RangeOf Ds) (deeds h) (relabelled_for N h (counted_by h g) (coins_of h)) into j (deed t h₀) (deeds h₀) u.coins (coins_of g₀)
-      (drop-deeds j h ∙ ap deeds eh) (ap (drop j) (sym relabelled-are) ∙ second-coins) in
+      (drop-deeds j h ∙ ap deeds eh) (ap (drop j) (sym relabelled-are) ∙ second_coins) in
       right_of (sort t.call) (named t.call) (opened h₀) Ds u.coins
       (subst (λ b. RangeOf Ds (deed_of b (sort t.call) (named t.call) (opened h₀)) u.coins) a r)
 
-  asked-none : t.accepted ≡ false → drop j (requested_in (counted_by h g)) ≡ None ∷ requested_in (counted_by h₀ g₀)
-  asked-none a =
+  asked_none : t.accepted ≡ false → drop j (requested_in (counted_by h g)) ≡ None ∷ requested_in (counted_by h₀ g₀)
+  asked_none a =
       drop-map requested j (deeds (counted_by h g))
       ∙ (ap (map requested) (drop-deeds j (counted_by h g))
-      ∙ (ap (λ x. requested_in x) (drop-counted j h g)
+      ∙ (ap (λ x. requested_in x) (drop_counted j h g)
       ∙ (ap (λ x. requested_in (counted_by x (drop j g))) eh
       ∙ (ap (λ x. requested_in (counted_by (t ∷ h₀) x)) eg
       ∙ ap (λ b. requested (deed_of b (sort u.call) (named u.call) (opened (counted_by h₀ g₀))) ∷ requested_in (counted_by h₀ g₀)) a))))
 
-  pub refused-same : t.accepted ≡ false → u.coins ≡ t.coins
-  refused-same a = go (all_below N (requested_in (counted_by h g))) refl
+  pub refused_same : t.accepted ≡ false → u.coins ≡ t.coins
+  refused_same a = go (all_below N (requested_in (counted_by h g))) refl
     where
       go : (b : Bool) → all_below N (requested_in (counted_by h g)) ≡ b → u.coins ≡ t.coins
       go true e =
           let s = stays_at (λ r. row_given (numbers_in r (requested_in h)) (numbers_in r (requested_in (counted_by h g))) (leaves_in r (coins_of h)))
-          (requested_in (counted_by h g)) (coins_of h) j (requested_in (counted_by h₀ g₀)) t.coins (coins_of h₀) (asked-none a) first-coins in
-          let m = sym second-coins ∙ (ap (drop j) (relabelled-are ∙ cond-true _ _ _ e) ∙ s.1) in
+          (requested_in (counted_by h g)) (coins_of h) j (requested_in (counted_by h₀ g₀)) t.coins (coins_of h₀) (asked_none a) first_coins in
+          let m = sym second_coins ∙ (ap (drop j) (relabelled-are ∙ cond-true _ _ _ e) ∙ s.1) in
           cc
       go false e =
-          let m = sym second-coins ∙ (ap (drop j) (relabelled-are ∙ cond-false _ _ _ e) ∙ first-coins) in
+          let m = sym second_coins ∙ (ap (drop j) (relabelled-are ∙ cond-false _ _ _ e) ∙ first_coins) in
           cc
 
 -- opened alike
-pub opened-alike : {R : Type 0} (h g : History R) → Alike (calls_of h) (calls_of g) → accepted_in h ≡ accepted_in g → opened h ≡ opened g
-opened-alike [] [] a e = refl
-opened-alike [] (u ∷ g) a e = absurd (let z : ◌≡◌ {A = ℕ} 0 1 = cc in let n : ⊥ = omega arith in n)
-opened-alike (t ∷ h) [] a e = absurd (let z : ◌≡◌ {A = ℕ} 0 1 = cc in let n : ⊥ = omega arith in n)
-opened-alike (t ∷ h) (u ∷ g) a e =
+pub opened_alike : {R : Type 0} (h g : History R) → Alike (calls_of h) (calls_of g) → accepted_in h ≡ accepted_in g → opened h ≡ opened g
+opened_alike [] [] a e = refl
+opened_alike [] (u ∷ g) a e = absurd (let z : ◌≡◌ {A = ℕ} 0 1 = cc in let n : ⊥ = omega arith in n)
+opened_alike (t ∷ h) [] a e = absurd (let z : ◌≡◌ {A = ℕ} 0 1 = cc in let n : ⊥ = omega arith in n)
+opened_alike (t ∷ h) (u ∷ g) a e =
     let s : sort t.call ≡ sort u.call = cc in
     let b : t.accepted ≡ u.accepted = cc in
     let a' : Alike (calls_of h) (calls_of g) = cc in
     let e' : accepted_in h ≡ accepted_in g = cc in
-    let k = opened-alike h g a' e' in
+    let k = opened_alike h g a' e' in
     ap (λ x. cond t.accepted (opened_by (sort t.call) x) x) k
     ∙ (ap (λ x. cond t.accepted (opened_by x (opened g)) (opened g)) s ∙ ap (λ x. cond x (opened_by (sort u.call) (opened g)) (opened g)) b)

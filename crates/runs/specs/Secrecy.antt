@@ -34,8 +34,8 @@ module _ {K S P F : Type 0} (kind : KindMeaning K) (store : StoreMeaning S) (map
   pub record SideBySide (N : ℕ) (Ds : List ℕ) (ss ts : List (Step K)) (os ps : List (Oram K S P)) : Type 0 where
     pub first : Run kind store map ss os
     pub second : Run kind store map ts ps
-    pub first-began : Began (Region store map N Ds) os
-    pub second-began : Began (Region store map N Ds) ps
+    pub first_began : Began (Region store map N Ds) os
+    pub second_began : Began (Region store map N Ds) ps
     pub alike : Alike (calls_of (history_of ss)) (calls_of (history_of ts))
     pub relabelled : Relabelled N ss ts
 
@@ -77,8 +77,8 @@ module _ {K S P F : Type 0} (kind : KindMeaning K) (store : StoreMeaning S) (map
   pub record Matched (N : ℕ) (rows : List (ℕ × ℕ × ℕ)) (unfit : Option ℕ) (ss ts : List (Step K)) (os ps : List (Oram K S P)) : Type 0 where
     pub first : Run kind store map ss os
     pub second : Run kind store map ts ps
-    pub first-began : Began (Shaped store map N rows unfit) os
-    pub second-began : Began (Shaped store map N rows unfit) ps
+    pub first_began : Began (Shaped store map N rows unfit) os
+    pub second_began : Began (Shaped store map N rows unfit) ps
     pub alike : Alike (calls_of (history_of ss)) (calls_of (history_of ts))
     pub relabelled : Relabelled N ss ts
     pub first_names : All (NamesBelow N) (calls_of (history_of ss))

@@ -12,9 +12,9 @@ log_more log base xs ys k y e l f h =
     ∙ (append_assoc base (take k log) (y ∷ []) ∙ ap (λ x. base ++ x) (ap (λ z. take k log ++ z ∷ []) f ∙ sym (take_more log k 0 l))))
 
 -- the whole log behind its length
-pub log-all : (log base out xs : List ℕ) (k used : ℕ) → xs ≡ base ++ take k log → length log ≤ k → base ≡ out ++ used ∷ [] → used ≡ length log
+pub log_all : (log base out xs : List ℕ) (k used : ℕ) → xs ≡ base ++ take k log → length log ≤ k → base ≡ out ++ used ∷ [] → used ≡ length log
     → xs ≡ out ++ flat_log log
-log-all log base out xs k used e l f u =
+log_all log base out xs k used e l f u =
     e ∙ (ap (λ x. base ++ x) (take_all k log l)
     ∙ (ap (λ x. x ++ log) f ∙ (append_assoc out (used ∷ []) log ∙ ap (λ n. out ++ n ∷ log) u)))
 

@@ -12,7 +12,7 @@ use Rattle.steps.specs.Steps.{Buckets, bucket, or_else, cleared_to, found_to}
 use Rattle.steps.specs.Laws.{path_blocks, FetchTakesExactly}
 use Rattle.steps.proofs.Buckets.{all_at, changed_at, bucket_other}
 use Rattle.steps.proofs.Lookups.{Lacks, lacks_from, others-first}
-use Rattle.steps.proofs.Rest.{cleared-rest}
+use Rattle.steps.proofs.Rest.{cleared_rest}
 
 -- an index behind one more element
 abbrev later : Option ℕ → Option ℕ
@@ -97,11 +97,11 @@ found-block_of D n m bs (suc k) =
     (sym (block_of-append n (path_blocks D m bs k) (blocks_in (bucket bs (path D m k)))))
 
 -- each bucket of the path loses its own block of the number, once
-cleared-last : (D n m : ℕ) (bs : Buckets) (k : ℕ) → k ≤ D
+cleared_last : (D n m : ℕ) (bs : Buckets) (k : ℕ) → k ≤ D
     → bucket (cleared_to D n m bs (suc k)) (path D m k) ≡ without n (bucket bs (path D m k))
-cleared-last D n m bs k l =
+cleared_last D n m bs k l =
     changed_at [] (without n) refl (cleared_to D n m bs k) (path D m k - 1)
-    ∙ ap (without n) (cleared-rest D n m bs (path D m k) (path_positive D m k) k (λ d g e. omega (arith, path_rises D m d k g l)))
+    ∙ ap (without n) (cleared_rest D n m bs (path D m k) (path_positive D m k) k (λ d g e. omega (arith, path_rises D m d k g l)))
 
 cleared_at : (D n m : ℕ) (bs : Buckets) (d k : ℕ) → d < k → k ≤ suc D
     → bucket (cleared_to D n m bs k) (path D m d) ≡ without n (bucket bs (path D m d))
@@ -111,7 +111,7 @@ cleared_at D n m bs d (suc k) h l =
       | inl g ↦ bucket_other (cleared_to D n m bs k) (path D m k) (path D m d) _ (path_positive D m k) (path_positive D m d)
           (λ e. omega (arith, path_rises D m d k g (omega arith)))
           ∙ cleared_at D n m bs d k g (omega arith)
-      | inr g ↦ let e : d ≡ k = omega arith in rw e (cleared-last D n m bs k (omega arith))
+      | inr g ↦ let e : d ≡ k = omega arith in rw e (cleared_last D n m bs k (omega arith))
     ]
 
 pub fetch_takes_exactly : FetchTakesExactly

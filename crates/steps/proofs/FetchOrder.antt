@@ -58,10 +58,10 @@ joined_others n (c ∷ cs) (b ∷ bs) e h =
 
 -- the blocks of a path are blocks of the buckets
 module _ (P : Block → Type 0) (D m : ℕ) (bs : Buckets) where
-  path-all : All P (flat_map blocks_in bs) → (k : ℕ) → All P (path_blocks D m bs k)
-  path-all a zero = tt
-  path-all a (suc k) =
-      All-append P (path_blocks D m bs k) _ (path-all a k)
+  path_all : All P (flat_map blocks_in bs) → (k : ℕ) → All P (path_blocks D m bs k)
+  path_all a zero = tt
+  path_all a (suc k) =
+      All-append P (path_blocks D m bs k) _ (path_all a k)
       (all_at [] (λ ps. All P (blocks_in ps)) bs (path D m k - 1) tt (all_each P blocks_in bs a))
 
   path_each : (d k : ℕ) → d < k → All P (path_blocks D m bs k) → All P (blocks_in (bucket bs (path D m d)))
@@ -113,7 +113,7 @@ module _ (D : ℕ) (leaves : List ℕ) (row : Row) (o : InOrder D leaves row) (i
       let itself = all_parts _ row.queue _ (finds_itself i (row_blocks row) (apart_from _ o.distinct)) in
       (fetch_takes_exactly D i m row).answers
       ∙ same_block i (path_blocks D m row.buckets (suc D) ++ row.queue) (row_blocks row)
-      (All-append _ _ row.queue (path-all _ D m row.buckets itself.1 (suc D)) itself.0)
+      (All-append _ _ row.queue (path_all _ D m row.buckets itself.1 (suc D)) itself.0)
       (λ lacks.
       let r = all_parts _ (path_blocks D m row.buckets (suc D)) row.queue lacks in
       All-append _ row.queue _ r.1 (tree_lacks r.0))

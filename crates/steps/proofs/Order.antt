@@ -43,7 +43,7 @@ first_half_lem D leaves i new row o l fits =
         known = rw e
             (all_with _ _ _ (λ b h other. h ∙ sym (get_or-set_other leaves i b.number.0 new 0 other)) (others i (row_blocks row))
             (others-all _ i (row_blocks row) o.known) (others_lack i (row_blocks row)));
-        leaves-fit = All-set _ leaves i new fits o.leaves-fit;
+        leaves_fit = All-set _ leaves i new fits o.leaves_fit;
       };
       gone = rw e (ap (option_map (λ b. b.words)) (block_of_lacks i _ (others_lack i (row_blocks row))));
       same = λ j n. rw e (ap (option_map (λ b. b.words)) (others_find i j n (row_blocks row)));
@@ -61,21 +61,21 @@ module _ (bs : List Block) (distinct : apart bs ≡ true) (row : Row) (moves : P
         placed = placed;
         counted = all_rearranged _ moves counted;
         known = all_rearranged _ moves known;
-        leaves-fit = fit;
+        leaves_fit = fit;
       }
 
-  same-content : (j : ℕ) → content j row ≡ option_map (λ b. b.words) (block_of j bs)
-  same-content j = ap (option_map (λ b. b.words)) (sym (block_of_rearranged j bs (row_blocks row) moves (apart_from bs distinct)))
+  same_content : (j : ℕ) → content j row ≡ option_map (λ b. b.words) (block_of j bs)
+  same_content j = ap (option_map (λ b. b.words)) (sym (block_of_rearranged j bs (row_blocks row) moves (apart_from bs distinct)))
 
 module _ (D : ℕ) (leaves : List ℕ) (ms : List ℕ) (row : Row) (o : InOrder D leaves row) where
-  dequeues-ordered : InOrder D leaves (dequeued_all D ms row)
-  dequeues-ordered =
+  dequeues_ordered : InOrder D leaves (dequeued_all D ms row)
+  dequeues_ordered =
       reordered (row_blocks row) o.distinct (dequeued_all D ms row) (steps_rearrange.dequeues D ms row) D leaves
       (dequeues_every Ok refl block_ok D ms row o.whole) (steps_keep_placed.second_half_lem D None ms row tt o.placed)
-      o.counted o.known o.leaves-fit
+      o.counted o.known o.leaves_fit
 
   dequeues_hold : (j : ℕ) → content j (dequeued_all D ms row) ≡ content j row
-  dequeues_hold = same-content (row_blocks row) o.distinct (dequeued_all D ms row) (steps_rearrange.dequeues D ms row)
+  dequeues_hold = same_content (row_blocks row) o.distinct (dequeued_all D ms row) (steps_rearrange.dequeues D ms row)
 
 mapped_none : {X Y : Type 0} (f : X → Y) (x : Option X) → option_map f x ≡ None → x ≡ None
 mapped_none f None e = refl
@@ -101,20 +101,20 @@ module _ (D : ℕ) (leaves : List ℕ) (i : ℕ) (b : Block) (row : Row) (o : In
       let h : accepts b row.queue ≡ true = and_from _ _ (lt-ltb _ _ room) (not_from_false _ free) in
       rw (cond-true _ (row.queue ++ b ∷ []) row.queue h, append_assoc) (Permᴰ.symm (Permᴰ.middle b row.queue _))
 
-  arrived-ordered : InOrder D leaves after
-  arrived-ordered =
+  arrived_ordered : InOrder D leaves after
+  arrived_ordered =
       reordered (b ∷ row_blocks row) distinct after arrival D leaves o.whole
-      (steps_keep_placed.arrive D (Some b) row (rw may.1 (All-get_or _ leaves i 0 l o.leaves-fit)) o.placed)
-      (rw may.0 l, o.counted) (may.1 ∙ ap (λ n. get_or leaves n 0) (sym may.0), o.known) o.leaves-fit
+      (steps_keep_placed.arrive D (Some b) row (rw may.1 (All-get_or _ leaves i 0 l o.leaves_fit)) o.placed)
+      (rw may.0 l, o.counted) (may.1 ∙ ap (λ n. get_or leaves n 0) (sym may.0), o.known) o.leaves_fit
 
-  arrived-holds : content i after ≡ Some b.words
-  arrived-holds =
-      same-content (b ∷ row_blocks row) distinct after arrival i
+  arrived_holds : content i after ≡ Some b.words
+  arrived_holds =
+      same_content (b ∷ row_blocks row) distinct after arrival i
       ∙ ap (option_map (λ x. x.words)) (cond-true (numbered i b) (Some b) (block_of i (row_blocks row)) (eq-eqb _ _ may.0))
 
-  arrived-same : (j : ℕ) → (j ≡ i → ⊥) → content j after ≡ content j row
-  arrived-same j n =
-      same-content (b ∷ row_blocks row) distinct after arrival j
+  arrived_same : (j : ℕ) → (j ≡ i → ⊥) → content j after ≡ content j row
+  arrived_same j n =
+      same_content (b ∷ row_blocks row) distinct after arrival j
       ∙ ap (option_map (λ x. x.words))
       (cond-false (numbered j b) (Some b) (block_of j (row_blocks row)) (ne_eqb _ _ (λ e. n (sym e ∙ may.0))))
 
@@ -123,16 +123,16 @@ second_half_lem : (D : ℕ) (leaves : List ℕ) (i : ℕ) (arrives : Option Bloc
     → MayArrive leaves i arrives → SecondHalf D leaves i arrives flushes row
 second_half_lem D leaves i None ms row o l gone room may =
     record {
-      ordered = dequeues-ordered D leaves ms row o;
+      ordered = dequeues_ordered D leaves ms row o;
       holds = dequeues_hold D leaves ms row o i ∙ gone;
       same = λ j _. dequeues_hold D leaves ms row o j;
     }
 second_half_lem D leaves i (Some b) ms row o l gone room may =
-    let new = arrived-ordered D leaves i b row o l gone room may in
+    let new = arrived_ordered D leaves i b row o l gone room may in
     record {
-      ordered = dequeues-ordered D leaves ms (arriving (Some b) row) new;
-      holds = dequeues_hold D leaves ms (arriving (Some b) row) new i ∙ arrived-holds D leaves i b row o l gone room may;
-      same = λ j n. dequeues_hold D leaves ms (arriving (Some b) row) new j ∙ arrived-same D leaves i b row o l gone room may j n;
+      ordered = dequeues_ordered D leaves ms (arriving (Some b) row) new;
+      holds = dequeues_hold D leaves ms (arriving (Some b) row) new i ∙ arrived_holds D leaves i b row o l gone room may;
+      same = λ j n. dequeues_hold D leaves ms (arriving (Some b) row) new j ∙ arrived_same D leaves i b row o l gone room may j n;
     }
 
 -- cleared buckets have no block
@@ -153,7 +153,7 @@ cleared D n count =
       };
       counted = rw (no_blocks count) tt;
       known = rw (no_blocks count) tt;
-      leaves-fit = all_replicate _ n 0 (pow_pos D);
+      leaves_fit = all_replicate _ n 0 (pow_pos D);
     }
 
 never_full : (D : ℕ) (leaves : List ℕ) (row : Row) → InOrder D leaves row → length leaves < capacity
@@ -169,10 +169,10 @@ pub order_kept : OrderKept
 order_kept =
     record {
       cleared = cleared;
-      cleared-holds = λ i count. ap (λ bs. option_map (λ b. b.words) (block_of i bs)) (no_blocks count);
+      cleared_holds = λ i count. ap (λ bs. option_map (λ b. b.words) (block_of i bs)) (no_blocks count);
       first_half_lem = first_half_lem;
       second_half_lem = second_half_lem;
-      drain = λ D m leaves row o. dequeues-ordered D leaves (m ∷ []) row o;
-      drain-holds = λ D m leaves row o. dequeues_hold D leaves (m ∷ []) row o;
+      drain = λ D m leaves row o. dequeues_ordered D leaves (m ∷ []) row o;
+      drain_holds = λ D m leaves row o. dequeues_hold D leaves (m ∷ []) row o;
       never_full = never_full;
     }

@@ -9,12 +9,12 @@ use Rattle.tree.specs.Blocks.{accepts, arrived}
 use Rattle.tree.specs.Choice.{chosen, may_move}
 use Rattle.tree.specs.Paths.{path}
 use Rattle.tree.specs.Places.{has_block, block_in, blocks_in, empty_place, emptied, filled, place_for, entry_place}
-use Rattle.tree.proofs.PathLaws.{path_positive, path-root}
+use Rattle.tree.proofs.PathLaws.{path_positive, path_root}
 use Rattle.steps.specs.Steps.{Buckets, Row, bucket, with_bucket, cleared_to, fetched, arriving, put_back_at, put_back_from, put_back, moved_by, moved, flushed_to, flushed, dequeued, dequeued_all}
 use Rattle.steps.specs.Laws.{OnPath, Placed, StepsKeepPlaced}
 use Rattle.steps.proofs.Buckets.{set_at, bucket_other}
 use Rattle.steps.proofs.Lookups.{others-all}
-use Rattle.tree.proofs.Firsts.{chosen-moves}
+use Rattle.tree.proofs.Firsts.{chosen_moves}
 
 -- what holds of the block of a place, if it has one
 abbrev Of : (Block → Type 0) → Place → Type 0
@@ -65,10 +65,10 @@ held-set D bs u ps h a held v k =
 held-emptied : (D : ℕ) (bs : Buckets) (u : ℕ) (o : Option ℕ) → 1 ≤ u → Held D bs → Held D (with_bucket bs u (emptied (bucket bs u) o))
 held-emptied D bs u o h held = held-set D bs u _ h (blocks_emptied (Fits D u) (bucket bs u) o (held u h)) held
 
-cleared-held : (D n m : ℕ) (bs : Buckets) (k : ℕ) → Held D bs → Held D (cleared_to D n m bs k)
-cleared-held D n m bs zero held = held
-cleared-held D n m bs (suc k) held =
-    held-emptied D (cleared_to D n m bs k) (path D m k) _ (path_positive D m k) (cleared-held D n m bs k held)
+cleared_held : (D n m : ℕ) (bs : Buckets) (k : ℕ) → Held D bs → Held D (cleared_to D n m bs k)
+cleared_held D n m bs zero held = held
+cleared_held D n m bs (suc k) held =
+    held-emptied D (cleared_to D n m bs k) (path D m k) _ (path_positive D m k) (cleared_held D n m bs k held)
 
 -- a block that may move to layer d fits there
 may_fit : (D m d : ℕ) (p : Place) → d ≤ D → may_move D m d p ≡ true → Fits D (path D m d) (block_in p)
@@ -88,7 +88,7 @@ moved-held D m bs k l held = go (chosen D m (suc k) (bucket bs u) (bucket bs v))
     go : (o : Option ℕ) → chosen D m (suc k) (bucket bs u) (bucket bs v) ≡ o → Held D (moved_by bs u v o)
     go None e = held
     go (Some i) e =
-        let c = chosen-moves D m (suc k) (bucket bs u) (bucket bs v) i e in
+        let c = chosen_moves D m (suc k) (bucket bs u) (bucket bs v) i e in
         let p : Place = get_or (bucket bs u) i empty_place in
         held-set D _ v _ (path_positive D m (suc k))
         (blocks_filled (Fits D v) (bucket bs v) p _ (λ _. may_fit D m (suc k) p l c.1) (held v (path_positive D m (suc k))))
@@ -104,7 +104,7 @@ arrived-all P b bs h a = cond_both (accepts b bs) (bs ++ b ∷ []) bs (All P) (�
 fetch : (D n m : ℕ) (row : Row) → Placed D row → Placed D (fetched D n m row)
 fetch D n m row h =
     record {
-      tree = cleared-held D n m row.buckets (suc D) h.tree;
+      tree = cleared_held D n m row.buckets (suc D) h.tree;
       waiting = others-all (λ b. b.leaf.0 < 2 ^ D) n row.queue h.waiting;
     }
 
@@ -124,7 +124,7 @@ put_back_from_lem D bs (b ∷ rest) held w = at (entry_place b (bucket bs 1))
         record {
           tree =
               held-set D bs 1 _ (omega arith)
-              (blocks_set (Fits D 1) (bucket bs 1) i (place_for b) (λ _. (w.0, (0, omega arith, path-root D b.leaf.0 w.0)))
+              (blocks_set (Fits D 1) (bucket bs 1) i (place_for b) (λ _. (w.0, (0, omega arith, path_root D b.leaf.0 w.0)))
               (held 1 (omega arith)))
               held;
           waiting = w.1;

@@ -13,7 +13,7 @@ use Rattle.tree.proofs.PathLaws.{path_positive, path_rises}
 use Rattle.steps.specs.Steps.{Buckets, Row, bucket, with_bucket, put_back_at, put_back_from, put_back, moved_by, moved, flushed_to, flushed, dequeued, dequeued_all}
 use Rattle.steps.specs.Laws.{row_blocks, StepsRearrange}
 use Rattle.steps.proofs.Buckets.{within_range, bucket_other}
-use Rattle.tree.proofs.Firsts.{under, empty_free, chosen-moves}
+use Rattle.tree.proofs.Firsts.{under, empty_free, chosen_moves}
 
 module _ {A : Type 0} where
   -- two parts at the front change places
@@ -52,10 +52,10 @@ blocks_set : (in' out : List Block) (ps : List Place) (i : ℕ) (p : Place) → 
 blocks_set in' out ps i p h e = rw (blocks_joined ps, blocks_joined (set ps i p)) (joined_set in_place empty_place in' out ps i p h e)
 
 -- the same of a bucket's place, in all buckets
-row-set : (in' out : List Block) (bs : Buckets) (v i : ℕ) (p : Place) → i < length (bucket bs v)
+row_set : (in' out : List Block) (bs : Buckets) (v i : ℕ) (p : Place) → i < length (bucket bs v)
     → Permᴰ (in' ++ in_place (get_or (bucket bs v) i empty_place)) (out ++ in_place p)
     → Permᴰ (in' ++ flat_map blocks_in bs) (out ++ flat_map blocks_in (with_bucket bs v (set (bucket bs v) i p)))
-row-set in' out bs v i p h e =
+row_set in' out bs v i p h e =
     joined_set blocks_in [] in' out bs (v - 1) (set (bucket bs v) i p) (within_range bs (v - 1) i h)
     (blocks_set in' out (bucket bs v) i p h e)
 
@@ -71,7 +71,7 @@ enters : (bs : Buckets) (v : ℕ) (ps : List Place) (i : ℕ) (p : Place) → bu
     → Permᴰ (block_in p ∷ flat_map blocks_in bs) (flat_map blocks_in (with_bucket bs v (set ps i p)))
 enters bs v ps i p e h free full =
     let h' : i < length (bucket bs v) = rw e h in
-    rw (← e) (row-set (block_in p ∷ []) [] bs v i p h' (rw (e, none (get_or ps i empty_place) free, one p full) (Permᴰ.refl (block_in p ∷ []))))
+    rw (← e) (row_set (block_in p ∷ []) [] bs v i p h' (rw (e, none (get_or ps i empty_place) free, one p full) (Permᴰ.refl (block_in p ∷ []))))
 
 -- and leaves its place
 leaves : (bs : Buckets) (v i : ℕ) → i < length (bucket bs v) → has_block (get_or (bucket bs v) i empty_place) ≡ true
@@ -79,7 +79,7 @@ leaves : (bs : Buckets) (v i : ℕ) → i < length (bucket bs v) → has_block (
     (block_in (get_or (bucket bs v) i empty_place) ∷ flat_map blocks_in (with_bucket bs v (set (bucket bs v) i empty_place)))
 leaves bs v i h full =
     let p : Place = get_or (bucket bs v) i empty_place in
-    row-set [] (block_in p ∷ []) bs v i empty_place h (rw (one p full) (Permᴰ.refl (block_in p ∷ [])))
+    row_set [] (block_in p ∷ []) bs v i empty_place h (rw (one p full) (Permᴰ.refl (block_in p ∷ [])))
 
 block_in-place_for : (b : Block) → block_in (place_for b) ≡ b
 block_in-place_for b =
@@ -113,7 +113,7 @@ moved_rearranges D m bs k l = go (chosen D m (suc k) (bucket bs u) (bucket bs v)
         → Permᴰ (flat_map blocks_in bs) (flat_map blocks_in (moved_by bs u v o))
     go None e = Permᴰ.refl (flat_map blocks_in bs)
     go (Some i) e =
-        let c = chosen-moves D m (suc k) (bucket bs u) (bucket bs v) i e in
+        let c = chosen_moves D m (suc k) (bucket bs u) (bucket bs v) i e in
         let full = (and_parts _ _ c.1).0 in
         let free = empty_free (bucket bs v) c.2.0 c.2.1 in
         let apart : path D m k ≡ path D m (suc k) → ⊥ = λ s. omega (arith, path_rises D m k (suc k) (omega arith) l) in

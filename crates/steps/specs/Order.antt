@@ -26,7 +26,7 @@ pub record InOrder (D : ℕ) (leaves : List ℕ) (row : Row) : Type 0 where
   -- every block's leaf is the one that the list has for its number
   pub known : All (λ b. b.leaf.0 ≡ slice_index leaves b.number.0) (row_blocks row)
   -- and each leaf is one of the tree
-  pub leaves-fit : All (λ m. m < 2 ^ D) leaves
+  pub leaves_fit : All (λ m. m < 2 ^ D) leaves
 
 -- what a row holds under number i: eight words, or none
 abbrev pub content : ℕ → Row → Option (List ℕ)
@@ -61,7 +61,7 @@ MayArrive leaves i arrives = IfSome arrives (λ b. (b.number.0 ≡ i) × (b.leaf
 pub record OrderKept : Type 0 where
   -- a cleared store with an empty queue is in order, with n zeros for leaves, and holds nothing
   pub cleared : (D n count : ℕ) → InOrder D (replicate n 0) (cleared_row count)
-  pub cleared-holds : (i count : ℕ) → content i (cleared_row count) ≡ None
+  pub cleared_holds : (i count : ℕ) → content i (cleared_row count) ≡ None
   pub first_half_lem : (D : ℕ) (leaves : List ℕ) (i new : ℕ) (row : Row) → InOrder D leaves row → i < length leaves → new < 2 ^ D
       → FirstHalf D leaves i new row
   pub second_half_lem : (D : ℕ) (leaves : List ℕ) (i : ℕ) (arrives : Option Block) (flushes : List ℕ) (row : Row)
@@ -69,7 +69,7 @@ pub record OrderKept : Type 0 where
       → MayArrive leaves i arrives → SecondHalf D leaves i arrives flushes row
   -- a dequeue alone changes nothing that is held
   pub drain : (D m : ℕ) (leaves : List ℕ) (row : Row) → InOrder D leaves row → InOrder D leaves (dequeued D m row)
-  pub drain-holds : (D m : ℕ) (leaves : List ℕ) (row : Row) → InOrder D leaves row → (j : ℕ)
+  pub drain_holds : (D m : ℕ) (leaves : List ℕ) (row : Row) → InOrder D leaves row → (j : ℕ)
       → content j (dequeued D m row) ≡ content j row
   -- with at most 31 numbers the queue never holds 32
   pub never_full : (D : ℕ) (leaves : List ℕ) (row : Row) → InOrder D leaves row → length leaves < capacity

@@ -57,11 +57,11 @@ numbers_same (suc k) t u same =
     ap (λ ns. ns ++ number_at t k ∷ []) (numbers_same k t u (before_same t u k same))
     ∙ ap (λ n. numbers_in k u ++ n ∷ []) (number_same t u k same)
 
-pub replayed-same : (k : ℕ) (t u : List ℕ) (bs : List (List ℕ)) → take (entry_words * k) t ≡ take (entry_words * k) u
+pub replayed_same : (k : ℕ) (t u : List ℕ) (bs : List (List ℕ)) → take (entry_words * k) t ≡ take (entry_words * k) u
     → replayed k t bs ≡ replayed k u bs
-replayed-same zero t u bs same = refl
-replayed-same (suc k) t u bs same =
-    let before = replayed-same k t u bs (before_same t u k same) in
+replayed_same zero t u bs same = refl
+replayed_same (suc k) t u bs same =
+    let before = replayed_same k t u bs (before_same t u k same) in
     let kind = kind_same t u k same in
     let number = number_same t u k same in
     let words = words_same t u k same in

@@ -8,7 +8,7 @@ use Rattle.store.specs.Layout.{overwritten, buckets_in, bucket_count, laid_out, 
 use Rattle.store.specs.Shapes.{length_numbers, length-replayed, tail_fits}
 use Rattle.store.specs.Stores.{bucket_words, entered, entry_of, is_bucket, replaced}
 use Rattle.store.specs.Tails.{after_entry, entry_words, kind_at, latest, latest_write, number_at, numbers_in, read_kind, replayed, tail_span, words_at, write_kind}
-use Rattle.store.proofs.Entries.{front_laid, kind_laid, number_laid, numbers_same, replayed-same, words_laid}
+use Rattle.store.proofs.Entries.{front_laid, kind_laid, number_laid, numbers_same, replayed_same, words_laid}
 use Rattle.store.proofs.Logs.{buckets_long}
 use Rattle.store.proofs.Pieces.{length-overwritten, laid_out-pieces}
 use Rattle.store.proofs.Replays.{get_d_numbers}
@@ -54,7 +54,7 @@ module _ (t : List ℕ) (k x n : ℕ) (ys u : List ℕ) (free : k + 1 ≤ tail_s
 
   before : (bs : List (List ℕ)) → replayed (k + 1) u bs ≡ after_entry u k (replayed k t bs)
   before bs =
-      ap (λ j. replayed j u bs) (add-one k) ∙ ap (after_entry u k) (replayed-same k u t bs (front_laid t k x n ys u fits long laid))
+      ap (λ j. replayed j u bs) (add-one k) ∙ ap (after_entry u k) (replayed_same k u t bs (front_laid t k x n ys u fits long laid))
 
   -- a read changes no bucket
   pub added_read : (bs : List (List ℕ)) → x ≡ read_kind → replayed (k + 1) u bs ≡ replayed k t bs

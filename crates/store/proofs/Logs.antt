@@ -3,7 +3,7 @@ use Rattle.std.proofs.Common.{◌≡◌, ℕ, ◌+◌, ◌-◌, ◌<◌, ◌≤�
 use Rattle.std.proofs.lemmas.List.{length-take-le, get_or-take, get_or_read}
 use Rattle.std.proofs.lemmas.Bool.{lt-ltb, cond-true}
 use Rattle.store.specs.Layout.{pieces, buckets_in, bucket_count, span_of, start_of, used_words, overwritten, blanked}
-use Rattle.store.specs.Shapes.{length-pieces, buckets-fit}
+use Rattle.store.specs.Shapes.{length-pieces, buckets_fit}
 use Rattle.store.specs.Stores.{bucket_words, bucket_of, replaced, entry_of, zeroed}
 use Rattle.store.proofs.Pieces.{get_d_pieces, pieces-overwritten, pieces-blanked, length-overwritten, length-blanked, drop_overwritten_past}
 
@@ -23,14 +23,14 @@ pub buckets_long : (ws : List ℕ) → length (buckets_in ws) ≡ bucket_count (
 buckets_long ws = length-pieces bucket_words (bucket_count (length ws)) ws
 
 -- bucket n as the words that begin where it does
-pub bucket-words : (ws : List ℕ) (n : ℕ) → 1 ≤ n → n ≤ bucket_count (length ws)
+pub bucket_words_lem : (ws : List ℕ) (n : ℕ) → 1 ≤ n → n ≤ bucket_count (length ws)
     → take bucket_words (drop (start_of n) ws) ≡ bucket_of (buckets_in ws) n
-bucket-words ws n l h = sym (get_d_pieces bucket_words (bucket_count (length ws)) ws (n - 1) (omega arith))
+bucket_words_lem ws n l h = sym (get_d_pieces bucket_words (bucket_count (length ws)) ws (n - 1) (omega arith))
 
 -- a bucket's words end within those of all buckets
-pub bucket-within : (ws : List ℕ) (n : ℕ) → 1 ≤ n → n ≤ bucket_count (length ws)
+pub bucket_within : (ws : List ℕ) (n : ℕ) → 1 ≤ n → n ≤ bucket_count (length ws)
     → (start_of n + bucket_words ≤ used_words ws) × (used_words ws ≤ length ws)
-bucket-within ws n l h = (omega arith, buckets-fit (length ws))
+bucket_within ws n l h = (omega arith, buckets_fit (length ws))
 
 -- what the words of one bucket, written over, leave
 pub record Written (ws : List ℕ) (n : ℕ) (ys zs : List ℕ) : Type 0 where
@@ -41,7 +41,7 @@ pub record Written (ws : List ℕ) (n : ℕ) (ys zs : List ℕ) : Type 0 where
 pub bucket-written : (ws : List ℕ) (n : ℕ) (ys zs : List ℕ) → 1 ≤ n → n ≤ bucket_count (length ws) → length ys ≡ bucket_words
     → zs ≡ overwritten ws (start_of n) ys → Written ws n ys zs
 bucket-written ws n ys zs l h e z =
-    let w = bucket-within ws n l h in
+    let w = bucket_within ws n l h in
     let k = bucket_count (length ws) in
     let within : start_of n + length ys ≤ length ws = omega (arith, w.0, w.1) in
     let long : length zs ≡ length ws = ap length z ∙ length-overwritten ws (start_of n) ys within in
@@ -53,11 +53,11 @@ bucket-written ws n ys zs l h e z =
     }
 
 -- what the words of all buckets, made 0, leave
-pub buckets-blanked : (ws zs : List ℕ) → zs ≡ blanked (used_words ws) ws
+pub buckets_blanked : (ws zs : List ℕ) → zs ≡ blanked (used_words ws) ws
     → (length zs ≡ length ws) × (buckets_in zs ≡ zeroed (buckets_in ws))
-buckets-blanked ws zs z =
+buckets_blanked ws zs z =
     let k = bucket_count (length ws) in
-    let long : length zs ≡ length ws = ap length z ∙ length-blanked (used_words ws) ws (buckets-fit (length ws)) in (
+    let long : length zs ≡ length ws = ap length z ∙ length-blanked (used_words ws) ws (buckets_fit (length ws)) in (
       long,
       ap (λ m. pieces bucket_words (bucket_count m) zs) long ∙ ap (pieces bucket_words k) z ∙ pieces-blanked bucket_words k ws
           ∙ ap (λ m. replicate m (replicate bucket_words 0)) (sym (buckets_long ws)),

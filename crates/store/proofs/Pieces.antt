@@ -22,12 +22,12 @@ module _ (w : ℕ) (xs : List ℕ) (i : ℕ) (ys : List ℕ) (l : w * suc i ≤ 
   whole_front : w ≤ length (take (w * suc i) xs)
   whole_front = omega (arith, wider w i, length-take-le (w * suc i) xs l)
 
-  take-overwritten : take w (overwritten xs (w * suc i) ys) ≡ take w xs
-  take-overwritten =
+  take_overwritten : take w (overwritten xs (w * suc i) ys) ≡ take w xs
+  take_overwritten =
       take-append-le w (take (w * suc i) xs) _ whole_front ∙ take-take w (w * suc i) xs (omega (arith, wider w i))
 
-  drop-overwritten : drop w (overwritten xs (w * suc i) ys) ≡ overwritten (drop w xs) (w * i) ys
-  drop-overwritten =
+  drop_overwritten : drop w (overwritten xs (w * suc i) ys) ≡ overwritten (drop w xs) (w * i) ys
+  drop_overwritten =
       let rest = ys ++ drop (w * suc i + length ys) xs in
       let e : w * suc i + length ys ≡ w + (w * i + length ys) = omega (arith, wider w i) in
       drop-append-le w (take (w * suc i) xs) rest whole_front
@@ -48,8 +48,8 @@ pieces-overwritten w (suc n) xs (suc i) ys h l e =
     let m : w * suc i ≤ w * suc n = mul-le-mul_left w (omega arith) in
     let k : w * suc i ≤ length xs = omega arith in
     let left : w * n ≤ length (drop w xs) = omega (arith, wider w n, length-drop w xs) in
-    ap (λ z. z ∷ pieces w n (drop w (overwritten xs (w * suc i) ys))) (take-overwritten w xs i ys k)
-    ∙ ap (λ z. take w xs ∷ pieces w n z) (drop-overwritten w xs i ys k)
+    ap (λ z. z ∷ pieces w n (drop w (overwritten xs (w * suc i) ys))) (take_overwritten w xs i ys k)
+    ∙ ap (λ z. take w xs ∷ pieces w n z) (drop_overwritten w xs i ys k)
     ∙ ap (λ z. take w xs ∷ z) (pieces-overwritten w n (drop w xs) i ys (omega arith) left e)
 
 -- zeros in pieces

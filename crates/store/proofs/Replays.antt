@@ -35,8 +35,8 @@ other_bucket bs m n ws p q ne =
     let b = leb-true 1 n (and_parts (leb 1 n) (leb n (length bs)) q).0 in
     get_or-set_other bs (m - 1) (n - 1) ws [] (λ e. ne (omega arith))
 
-same-bucket : (bs : List (List ℕ)) (n : ℕ) (ws : List ℕ) → is_bucket (length bs) n ≡ true → bucket_of (replaced bs n ws) n ≡ ws
-same-bucket bs n ws q =
+same_bucket : (bs : List (List ℕ)) (n : ℕ) (ws : List ℕ) → is_bucket (length bs) n ≡ true → bucket_of (replaced bs n ws) n ≡ ws
+same_bucket bs n ws q =
     let parts = and_parts (leb 1 n) (leb n (length bs)) q in
     let a = leb-true 1 n parts.0 in
     let b = leb-true n (length bs) parts.1 in
@@ -54,7 +54,7 @@ latest_more r tail k n old was before =
     go false b e p q = before
     go true true true p q =
         let same : number_at tail k ≡ n = eqb-true (number_at tail k) n q in
-        ap (λ m. bucket_of (replaced r m (words_at tail k)) n) same ∙ same-bucket r n (words_at tail k) was
+        ap (λ m. bucket_of (replaced r m (words_at tail k)) n) same ∙ same_bucket r n (words_at tail k) was
     go true false true p q =
         let same : number_at tail k ≡ n = eqb-true (number_at tail k) n q in
         absurd (both_ways (is_bucket (length r) n) (ap (is_bucket (length r)) (sym same) ∙ p) was)

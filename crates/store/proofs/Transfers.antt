@@ -7,8 +7,8 @@ use Rattle.store.specs.declared.fault.StoreFault.TheVariants.{Full, NoBucket}
 use Rattle.store.specs.Stores.{is_bucket, bucket_of, replaced, entered, refusal, refusal_by, answered, done}
 
 -- with enough free entries and such a bucket nothing refuses
-pub none-refused : (entries span used count n : ℕ) → used + entries ≤ span → is_bucket count n ≡ true → refusal_by entries span used count n ≡ None
-none-refused entries span used count n h b =
+pub none_refused : (entries span used count n : ℕ) → used + entries ≤ span → is_bucket count n ≡ true → refusal_by entries span used count n ≡ None
+none_refused entries span used count n h b =
     cond-true (leb (used + entries) span) _ _ (le-leb _ _ h) ∙ cond-true (is_bucket count n) _ _ b
 
 -- what an answered call tells: nothing refused it, so there was room and there was such a bucket
@@ -30,7 +30,7 @@ admitted {X} entries span used count n x y e = go (leb (used + entries) span) (i
         let parts = and_parts (leb 1 n) (leb n count) q in
         let free : used + entries ≤ span = leb-true (used + entries) span p in
         record {
-          none = none-refused entries span used count n free q;
+          none = none_refused entries span used count n free q;
           free = free;
           there = q;
           low = leb-true 1 n parts.0;
@@ -47,17 +47,17 @@ pub refusal_counts : (entries span₁ used count span : ℕ) (log : List ℕ) (b
 refusal_counts entries span₁ used count span log buckets n s u k = cc
 
 -- a call that is not refused by numbers is done
-pub done-answer : (entries span₁ used count span : ℕ) (log : List ℕ) (buckets : List (List ℕ)) (n : ℕ)
+pub done_answer : (entries span₁ used count span : ℕ) (log : List ℕ) (buckets : List (List ℕ)) (n : ℕ)
     → span₁ ≡ span → length log ≡ used → length buckets ≡ count → refusal_by entries span₁ used count n ≡ None
     → Ok tt ≡ done (refusal entries span log buckets n)
-done-answer entries span₁ used count span log buckets n s u k h =
+done_answer entries span₁ used count span log buckets n s u k h =
     ap done (sym h ∙ refusal_counts entries span₁ used count span log buckets n s u k)
 
 -- a call that is refused by numbers is refused by that fault
-pub refused-answer : {X : Type 0} (entries span₁ used count span : ℕ) (log : List ℕ) (buckets : List (List ℕ)) (n : ℕ) (x : X)
+pub refused_answer : {X : Type 0} (entries span₁ used count span : ℕ) (log : List ℕ) (buckets : List (List ℕ)) (n : ℕ) (x : X)
     (fault : StoreFault) → span₁ ≡ span → length log ≡ used → length buckets ≡ count
     → Err fault ≡ answered (refusal_by entries span₁ used count n) x → Err fault ≡ done (refusal entries span log buckets n)
-refused-answer {X} entries span₁ used count span log buckets n x fault s u k h =
+refused_answer {X} entries span₁ used count span log buckets n x fault s u k h =
     go (refusal_by entries span₁ used count n) h
     ∙ ap done (refusal_counts entries span₁ used count span log buckets n s u k)
   where
@@ -76,8 +76,8 @@ module _ (span : ℕ) (log : List ℕ) (buckets : List (List ℕ)) (n : ℕ) (fr
   written_back r span₁ log₁ buckets₁ words log₂ buckets₂ s l b w a l₂ b₂ =
       let one : length log₁ + 1 ≤ span₁ = omega (arith, ap length l ∙ length_push log n) in
       let is : is_bucket (length buckets₁) n ≡ true = ap (λ x. is_bucket (length x) n) b ∙ there in
-      let ok : r ≡ Ok tt = a ∙ ap done (none-refused 1 span₁ (length log₁) (length buckets₁) n one is) in
-      let two : done (refusal 2 span log buckets n) ≡ Ok tt = ap done (none-refused 2 span (length log) (length buckets) n free there) in
+      let ok : r ≡ Ok tt = a ∙ ap done (none_refused 1 span₁ (length log₁) (length buckets₁) n one is) in
+      let two : done (refusal 2 span log buckets n) ≡ Ok tt = ap done (none_refused 2 span (length log) (length buckets) n free there) in
       let same : replaced buckets n (bucket_of buckets n) ≡ buckets = set-get_or buckets (n - 1) [] in (
         ok ∙ sym two,
         l₂ ∙ ap (λ x. cond (is_ok x) (entered log₁ n) log₁) ok ∙ ap (λ x. entered x n) l

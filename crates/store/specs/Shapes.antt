@@ -28,15 +28,15 @@ fitting w most words =
     let k : w * min (words / w) most ≤ w * (words / w) = mul-le-mul_left w h in
     omega (arith, mul-div-le words w)
 
-pub buckets-fit : (words : ℕ) → bucket_words * bucket_count words ≤ words
-buckets-fit words = fitting bucket_words 8191 words
+pub buckets_fit : (words : ℕ) → bucket_words * bucket_count words ≤ words
+buckets_fit words = fitting bucket_words 8191 words
 
 -- the log is at the front of a list that has room for the span
 pub list_shape : (words entries : List ℕ) (used : ℕ) → used ≤ span_of (length entries)
     → Shape (buckets_in words) (span_of (length entries)) (take used entries)
 list_shape words entries used h =
     record {
-      forty = all_whole bucket_words (bucket_count (length words)) words (buckets-fit (length words));
+      forty = all_whole bucket_words (bucket_count (length words)) words (buckets_fit (length words));
       narrow = omega arith;
       within = omega (arith, length-take used entries);
       counted = omega (arith, length-pieces bucket_words (bucket_count (length words)) words);
@@ -55,13 +55,13 @@ length-replayed (suc k) tail bs =
     (λ _. length-set r (n - 1) (words_at tail k) ∙ length-replayed k tail bs) (λ _. length-replayed k tail bs)
 
 -- a write leaves each bucket whole, since its entry is whole
-pub replayed-whole : (k : ℕ) (tail : List ℕ) (bs : List (List ℕ)) → entry_words * k ≤ length tail
+pub replayed_whole : (k : ℕ) (tail : List ℕ) (bs : List (List ℕ)) → entry_words * k ≤ length tail
     → All (λ b. length b ≡ bucket_words) bs → All (λ b. length b ≡ bucket_words) (replayed k tail bs)
-replayed-whole zero tail bs h all = all
-replayed-whole (suc k) tail bs h all =
+replayed_whole zero tail bs h all = all
+replayed_whole (suc k) tail bs h all =
     let r = replayed k tail bs in
     let n = number_at tail k in
-    let before = replayed-whole k tail bs (omega arith) all in
+    let before = replayed_whole k tail bs (omega arith) all in
     let whole : length (words_at tail k) ≡ bucket_words =
     length-take-le bucket_words (drop (entry_words * k + 2) tail) (omega (arith, length-drop (entry_words * k + 2) tail)) in
     cond_both (kind_at tail k == write_kind && is_bucket (length r) n) (replaced r n (words_at tail k)) r
@@ -80,7 +80,7 @@ pub tail_shape : (base tail : List ℕ) (used : ℕ) → used ≤ tail_span (len
 tail_shape base tail used h =
     let plain = list_shape base tail 0 (omega arith) in
     record {
-      forty = replayed-whole used tail (buckets_in base) (tail_fits used (length tail) h) plain.forty;
+      forty = replayed_whole used tail (buckets_in base) (tail_fits used (length tail) h) plain.forty;
       narrow = omega arith;
       within = omega (arith, length_numbers used tail);
       counted = omega (arith, length-replayed used tail (buckets_in base), plain.counted);

@@ -34,8 +34,8 @@ best_keeps ss n s top (Some i) e l b =
     (below_more (λ j. get_or ss j 0 ≤ top) n b.0 (omega arith), (omega (arith, b.1.0), b.1.1, b.1.2, b.1.3))
 
 -- where two ways meet, the variables have new names
-pub best-same : (ss : List ℕ) (n s top : ℕ) (o r : Option ℕ) → top ≡ s → r ≡ o → Best ss n s o → Best ss n top r
-best-same ss n s top o r e f b = subst (λ k. Best ss n k r) (sym e) (subst (λ q. Best ss n s q) (sym f) b)
+pub best_same : (ss : List ℕ) (n s top : ℕ) (o r : Option ℕ) → top ≡ s → r ≡ o → Best ss n s o → Best ss n top r
+best_same ss n s top o r e f b = subst (λ k. Best ss n k r) (sym e) (subst (λ q. Best ss n s q) (sym f) b)
 
 -- the highest score is the one that none is above and that stands somewhere
 at_most : (ss : List ℕ) (j : ℕ) → get_or ss j 0 ≤ highest ss
@@ -139,14 +139,14 @@ moves_from D m d parent child n top (Some i) l e room b =
           omega (arith, at, close, s, may_score D m d q other, b.1.3 j h, b.1.1)),
     )
 
-pub best-moves : (D m d : ℕ) (parent child : List Place) (n top : ℕ) (r : Option ℕ) → n ≡ length parent
+pub best_moves : (D m d : ℕ) (parent child : List Place) (n top : ℕ) (r : Option ℕ) → n ≡ length parent
     → is_some (lowest_empty child) ≡ true → Best (map (scored D m d) parent) n top r
     → is_leaf D m ≡ true → d ≤ D → Moves D m d parent child r
-best-moves D m d parent child n top r e room b leaf layer =
+best_moves D m d parent child n top r e room b leaf layer =
     let test : (is_leaf D m && leb d D) ≡ true = and_from _ _ leaf (le-leb d D layer) in
     moves_from D m d parent child n top r (ltb-true _ _ (and_parts (is_depth D) _ leaf).1) e room
     (subst (λ t. Best (map (λ p. cond t (score D m d p) 0) parent) n top r) test b)
 
-pub best-within : (ss : List ℕ) (n top : ℕ) (r : Option ℕ) → Best ss n top r → IfSome r (λ i. i < n)
-best-within ss n top None b = tt
-best-within ss n top (Some i) b = b.1.0
+pub best_within : (ss : List ℕ) (n top : ℕ) (r : Option ℕ) → Best ss n top r → IfSome r (λ i. i < n)
+best_within ss n top None b = tt
+best_within ss n top (Some i) b = b.1.0

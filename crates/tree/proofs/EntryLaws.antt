@@ -121,8 +121,8 @@ entry_fit a b xs k None p q e = λ _. e p
 entry_fit a b xs k (Some v) p q e = (q, e.1, e.2)
 
 -- a leaf's tree is at most 12 deep
-pub leaf-depth : (D m : ℕ) → is_leaf D m ≡ true → D ≤ 12
-leaf-depth D m f = leb-true D 12 (and_parts (leb 1 D) (leb D 12) (and_parts (is_depth D) (ltb m (2 ^ D)) f).0).1
+pub leaf_depth : (D m : ℕ) → is_leaf D m ≡ true → D ≤ 12
+leaf_depth D m f = leb-true D 12 (and_parts (leb 1 D) (leb D 12) (and_parts (is_depth D) (ltb m (2 ^ D)) f).0).1
 
 module _ (D : ℕ) (s a b : Leaf) (all : are_leaves D (s ∷ a ∷ b ∷ []) ≡ true) (k : ℕ) (r : Option BucketNumber) where
   -- the entries of a request, part by part

@@ -64,9 +64,9 @@ positive true n h = refl
 positive false n h = absurd (let z : ⊥ = omega arith in z)
 
 -- the chosen place has a block that may move, and there is room for it
-pub chosen-moves : (D m d : ℕ) (parent child : List Place) (i : ℕ) → chosen D m d parent child ≡ Some i
+pub chosen_moves : (D m d : ℕ) (parent child : List Place) (i : ℕ) → chosen D m d parent child ≡ Some i
     → (i < length parent) × (may_move D m d (get_or parent i empty_place) ≡ true) × ((j : ℕ) × (lowest_empty child ≡ Some j))
-chosen-moves D m d parent child i e =
+chosen_moves D m d parent child i e =
     let u = under (is_some (lowest_empty child)) _ i e in
     let r = best_positive (map (score D m d) parent) i u.1 in
     let s = get_or-map (score D m d) parent i empty_place in

@@ -17,8 +17,8 @@ path_up D m d e h k =
     let s : D - e ≡ (D - d) + (d - e) = omega arith in
     ap (λ x. (2 ^ D + m) / 2 ^ x) s ∙ sym (shr-shr (2 ^ D + m) (D - d) (d - e))
 
-pub path-leaf : (D m : ℕ) → path D m D ≡ 2 ^ D + m
-path-leaf D m = let e : D - D ≡ 0 = omega arith in ap (λ x. (2 ^ D + m) / 2 ^ x) e ∙ div-one (2 ^ D + m)
+pub path_leaf : (D m : ℕ) → path D m D ≡ 2 ^ D + m
+path_leaf D m = let e : D - D ≡ 0 = omega arith in ap (λ x. (2 ^ D + m) / 2 ^ x) e ∙ div-one (2 ^ D + m)
 
 pub path_half : (D m d : ℕ) → d < D → path D m d ≡ path D m (suc d) / 2
 path_half D m d h =
@@ -40,8 +40,8 @@ path_positive D m d =
     let p : 2 ^ (D - d) ≤ 2 ^ D = pow_mono (omega arith) in
     le-div 1 (2 ^ D + m) (2 ^ (D - d)) (pow_pos (D - d)) (omega arith)
 
-pub path-root : (D m : ℕ) → m < 2 ^ D → path D m 0 ≡ 1
-path-root D m h = omega (arith, path_positive D m 0, path_high D m 0 h (omega arith))
+pub path_root : (D m : ℕ) → m < 2 ^ D → path D m 0 ≡ 1
+path_root D m h = omega (arith, path_positive D m 0, path_high D m 0 h (omega arith))
 
 pub path_rises : (D m d e : ℕ) → d < e → e ≤ D → path D m d < path D m e
 path_rises D m d e h k =
@@ -153,8 +153,8 @@ paths_part D m n h l =
 pub path_laws : PathLaws
 path_laws =
     record {
-      root = path-root;
-      last = path-leaf;
+      root = path_root;
+      last = path_leaf;
       halves = path_half;
       bounds = λ D m d h l. (path_low D m d l, path_high D m d h l);
       children = path_child;

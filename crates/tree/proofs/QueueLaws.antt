@@ -189,8 +189,8 @@ pub queued_long : (q : Queue) → length (queued q) ≡ q.count
 queued_long q = length-take-le q.count q.blocks (omega arith)
 
 -- what the test for a full queue tells
-pub count-full : (q : Queue) → true ≡ eqb (length (queued q)) 32 → q.count ≡ 32
-count-full q e = sym (queued_long q) ∙ eqb-true (length (queued q)) 32 (sym e)
+pub count_full : (q : Queue) → true ≡ eqb (length (queued q)) 32 → q.count ≡ 32
+count_full q e = sym (queued_long q) ∙ eqb-true (length (queued q)) 32 (sym e)
 
 pub count_room : (q : Queue) → false ≡ eqb (length (queued q)) 32 → q.count < 32
 count_room q e =

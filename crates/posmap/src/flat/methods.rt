@@ -46,7 +46,7 @@ impl PositionMap for FlatMap {
 
     ghost drained = { flat_drained };
 
-    ghost facts = { λ _. record { unfit_named = tt; full-named = tt; own-leaves = λ _. tt; small_never_full = λ _. tt } };
+    ghost facts = { λ _. record { unfit_named = tt; full_named = tt; own_leaves = λ _. tt; small_never_full = λ _. tt } };
 
     fn trial_swap(
         &self,

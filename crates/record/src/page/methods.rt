@@ -2,7 +2,7 @@
 // a page answers for every number, by its remainder.
 ghost use Rattle.std.specs.Prelude.{◌≡◌, ◌%◌, replicate};
 ghost use Rattle.record.specs.Pages.{Replaced, leaf_in, leaf_set, leaves_of, leaves_per_page, page_of};
-ghost use Rattle.record.specs.Same.{same-page};
+ghost use Rattle.record.specs.Same.{same_page};
 ghost use Rattle.record.specs.WordsLemmas.{words_from-all};
 ghost use Rattle.std.proofs.Common.{rules, arith};
 
@@ -48,7 +48,7 @@ impl RecordKind for LeafPage {
 
     ghost eight = { first_of (Prim.search rules, Prim.grind (arith, Self.row.coded.inj)) };
 
-    ghost again = { λ x. same-page _ x (words_from-all 8 x.leaves x.eight) };
+    ghost again = { λ x. same_page _ x (words_from-all 8 x.leaves x.eight) };
 
     fn to_words(&self) -> [u32; 8]
         ensures { result ≡ leaves_of self.now }

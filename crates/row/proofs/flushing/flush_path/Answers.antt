@@ -4,7 +4,7 @@ use Rattle.tree.proofs.PathLaws.{path_positive}
 use Rattle.tree.specs.Paths.{path}
 use Rattle.tree.specs.Places.{places_of}
 use Rattle.row.specs.Rows.{decoded}
-use Rattle.row.proofs.FlushLaws.{flush-all, flush_more, flush-none, flush_used}
+use Rattle.row.proofs.FlushLaws.{flush_all, flush_more, flush_none, flush_used}
 use Rattle.row.proofs.RowLaws.{path_there}
 use Rattle.row.proofs.flushing.flush_path.Goals as goal
 
@@ -26,7 +26,7 @@ flush_layer-hand-requires g c =
     let b = decoded (g.S.BucketStore.buckets c.args.store.now) in
     let l = g.S.BucketStore.log c.args.store.now in
     let read = c.read_bucket-hand.ensures in
-    let start = flush-none D m _ b l c.path_bucket.ensures (ap decoded read.holds) read.places read.enters in
+    let start = flush_none D m _ b l c.path_bucket.ensures (ap decoded read.holds) read.places read.enters in
     let used = flush_used D m c.loop-layer.layer b _ l _ _ (c.loop-layer.invariant.0 b l start) in
     let count = ap length read.holds in
     record { leaf = c.requires.leaf; layer = c.loop-layer-test.true; fits = omega arith; free = omega arith }
@@ -56,7 +56,7 @@ write_bucket-requires g c =
     let b = decoded (g.S.BucketStore.buckets c.args.store.now) in
     let l = g.S.BucketStore.log c.args.store.now in
     let read = c.read_bucket-hand.ensures in
-    let start = flush-none D m _ b l c.path_bucket.ensures (ap decoded read.holds) read.places read.enters in
+    let start = flush_none D m _ b l c.path_bucket.ensures (ap decoded read.holds) read.places read.enters in
     let used = flush_used D m c.loop-layer.layer b _ l _ _ (c.loop-layer.invariant.0 b l start) in
     let count = ap length read.holds in
     let low = path_positive D m D in
@@ -71,10 +71,10 @@ returns g c =
     let l = g.S.BucketStore.log c.args.store.now in
     let read = c.read_bucket-hand.ensures in
     let write = c.write_bucket.ensures in
-    let start = flush-none D m _ b l c.path_bucket.ensures (ap decoded read.holds) read.places read.enters in
+    let start = flush_none D m _ b l c.path_bucket.ensures (ap decoded read.holds) read.places read.enters in
     let end : c.loop-layer.layer ≡ D = omega arith in
     let so = rw end at (c.loop-layer.invariant.0 b l start) in
-    let all = flush-all D m _ b _ _ l _ _ _ c.path_bucket-2.ensures so write.holds write.enters in
+    let all = flush_all D m _ b _ _ l _ _ _ c.path_bucket-2.ensures so write.holds write.enters in
     record {
       holds = all.0;
       count = write.count ∙ (c.loop-layer.invariant.1 ∙ ap length read.holds);

@@ -2,7 +2,7 @@ use Rattle.std.proofs.Common.{◌≡◌, ◌<◌, ◌≤◌, length, vec_items, 
 use Rattle.oram.specs.Orams.{rows_of}
 use Rattle.posmap.specs.Maps.{row_at}
 use Rattle.std.proofs.lemmas.Result.{IfOk-at_ok}
-use Rattle.secrecy.proofs.Flats.{log-all, log_more}
+use Rattle.secrecy.proofs.Flats.{log_all, log_more}
 use Rattle.secrecy.proofs.seen.add_log.Goals as goal
 
 pub loop-k-preserved : goal.loop-k-preserved
@@ -20,5 +20,5 @@ returns g c =
     let used = c.row_used-used.ensures.value in
     let t = c.loop-k-test.false in
     let l : length log ≤ c.loop-k.k = omega arith in
-    log-all log (vec_items c.push.new.self) (vec_items c.args.out.now) (vec_items c.loop-k.out) c.loop-k.k
+    log_all log (vec_items c.push.new.self) (vec_items c.args.out.now) (vec_items c.loop-k.out) c.loop-k.k
     c.row_used-used.result c.loop-k.invariant l c.in_ok-push.ensures.items used

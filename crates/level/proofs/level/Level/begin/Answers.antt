@@ -1,5 +1,5 @@
 use Rattle.std.proofs.Common.{[], length, refl}
-use Rattle.level.proofs.Cleared.{cleared-full, cleared-leaves, cleared_order, cleared-rows, cleared_unfit}
+use Rattle.level.proofs.Cleared.{cleared_full, cleared_leaves, cleared_order, cleared_rows, cleared_unfit}
 use Rattle.level.proofs.level.Level.begin.Goals as goal
 
 pub returns : goal.returns
@@ -23,14 +23,14 @@ returns g c =
       log = es.empties;
       queue = c.empty.ensures;
       below = ep.does;
-      rows = cleared-rows D (bs s) (bs s') q (ls p) (ls p') (rs p) (rs p') (us p) (us p') es.holds c.empty.ensures ep.leaves
+      rows = cleared_rows D (bs s) (bs s') q (ls p) (ls p') (rs p) (rs p') (us p) (us p') es.holds c.empty.ensures ep.leaves
           ep.rows ep.unfit (g.S.BucketStore.span s) (g.S.BucketStore.span s') [] (g.S.BucketStore.log s') es.spans
           es.empties;
       unfit = cleared_unfit D (bs s) (bs s') q (ls p) (ls p') (rs p) (rs p') (us p) (us p') es.holds c.empty.ensures
           ep.leaves ep.rows ep.unfit;
-      leaves = cleared-leaves D (bs s) (bs s') q (ls p) (ls p') (rs p) (rs p') (us p) (us p') es.holds c.empty.ensures
+      leaves = cleared_leaves D (bs s) (bs s') q (ls p) (ls p') (rs p) (rs p') (us p) (us p') es.holds c.empty.ensures
           ep.leaves ep.rows ep.unfit;
-      full = cleared-full D (bs s) (bs s') q (ls p) (ls p') (rs p) (rs p') (us p) (us p') es.holds c.empty.ensures ep.leaves
+      full = cleared_full D (bs s) (bs s') q (ls p) (ls p') (rs p) (rs p') (us p) (us p') es.holds c.empty.ensures ep.leaves
           ep.rows ep.unfit (g.P.PositionMap.full p') ep.full;
       order = (
         ep.order,

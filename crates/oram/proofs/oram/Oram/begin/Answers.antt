@@ -1,6 +1,6 @@
 use Rattle.std.proofs.Common.{[], length, replicate, sym, refl, ap, ◌∙◌}
 use Rattle.front.specs.Fronts.{front_full, front_rows}
-use Rattle.front.proofs.Zeroed.{cleared_order, cleared-rows, cleared_unfit, leaves_long, zeroed_twice}
+use Rattle.front.proofs.Zeroed.{cleared_order, cleared_rows, cleared_unfit, leaves_long, zeroed_twice}
 use Rattle.posmap.specs.Maps.{rows_zeroed}
 use Rattle.std.proofs.lemmas.List.{length-replicate}
 use Rattle.store.specs.Stores.{zeroed}
@@ -24,7 +24,7 @@ returns g c =
     let q = c.empty.result in
     let spans = g.S.BucketStore.span in
     let logs = g.S.BucketStore.log in
-    let rows = cleared-rows most_records D (bs s) (bs s') q (ls p) (ls p') (rs p) (rs p') es.holds c.empty.ensures ep.leaves
+    let rows = cleared_rows most_records D (bs s) (bs s') q (ls p) (ls p') (rs p) (rs p') es.holds c.empty.ensures ep.leaves
     ep.rows (spans s) (spans s') (logs s) (logs s') es.spans es.empties in
     let o : Oram g.row.K.Denot g.row.S.Denot g.row.P.Denot = record { store = s'; below = p'; queue = q; depth = D; opened = 0; kind = record {} } in
     let begun : Begun g.S.BucketStore g.P.PositionMap o =

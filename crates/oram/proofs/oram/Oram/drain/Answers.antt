@@ -11,7 +11,7 @@ use Rattle.oram.specs.declared.oram.Oram.{Oram}
 use Rattle.oram.specs.Orams.{most_records, row_of, unfit_of}
 use Rattle.oram.proofs.Asked.{all_drained}
 use Rattle.oram.proofs.Cards.{no_card}
-use Rattle.oram.proofs.Endings.{drain-done, refused_at_once, unfit_refuses}
+use Rattle.oram.proofs.Endings.{drain_done, refused_at_once, unfit_refuses}
 use Rattle.oram.proofs.Laws.{lawful}
 use Rattle.oram.proofs.Passed.{none_named}
 use Rattle.oram.proofs.Tested.{drain_passes}
@@ -86,10 +86,10 @@ returns g c =
     λ ord. subst (DrainDone (m.leaves b) (m.leaves b') (m.rows b) (m.rows b')) (left 1 xs) (e.done ord) in
     let o' : Oram g.row.K.Denot g.row.S.Denot g.row.P.Denot = record { store = t; below = b'; queue = c.drain_row-self.result; depth = D; opened = o.opened; kind = o.kind } in
     let d : Does k s m cs o o' draining (did None) =
-    drain-done k s m cs o o' c.in_ok-drain_tested.ensures
+    drain_done k s m cs o o' c.in_ok-drain_tested.ensures
     (record {
       rows = record {
-        length-stays = e.frame.length-stays;
+        length_stays = e.frame.length_stays;
         rows_stay = rows_kept most_records D (s.log o.store) (s.log t) e.frame w.count w.span;
         unfit_stays = unfit_kept most_records D (s.log o.store) (s.log t) e.frame w.count w.span;
       };

@@ -4,7 +4,7 @@ use Rattle.posmap.specs.Maps.{leaf_numbers, naming}
 use Rattle.history.specs.Histories.{getting}
 use Rattle.oram.specs.Calls.{Does, ask_time, found, request_refusal}
 use Rattle.oram.specs.Orams.{records_of, unfit_of}
-use Rattle.oram.proofs.Endings.{get_done, refused_at_once, request-refused, time_refuses}
+use Rattle.oram.proofs.Endings.{get_done, refused_at_once, request_refused, time_refuses}
 use Rattle.oram.proofs.Laws.{lawful}
 use Rattle.oram.proofs.oram.Oram.get.Goals as goal
 
@@ -35,7 +35,7 @@ returns-in_err-words g c =
     let o' = c.request.new.self in
     let p = err_from_is_err_and c.from_residual-in_err-words.result c.from_residual-in_err-words.ensures.1 in
     let d : Does k s m cs o o' call (found g.P.Fault.CardFault c.from_residual-in_err-words.result) =
-    rw (p.1, p.2) (request-refused k s m cs o g.P.Fault.CardFault o' n None (ask_time (records_of m o) o.opened n) c.in_ok-in_time.ensures call refl _ c.in_err-words.ensures) in
+    rw (p.1, p.2) (request_refused k s m cs o g.P.Fault.CardFault o' n None (ask_time (records_of m o) o.opened n) c.in_ok-in_time.ensures call refl _ c.in_err-words.ensures) in
     record { does = d; law = lawful k s m g.met.K.RecordKind.again cs o o' call _ d }
 
 pub returns : goal.returns

@@ -4,7 +4,7 @@ use Rattle.posmap.specs.Maps.{leaf_numbers, naming}
 use Rattle.history.specs.Histories.{opening}
 use Rattle.oram.specs.Calls.{Does, open_time, done, request_refusal}
 use Rattle.oram.specs.Orams.{records_of, unfit_of}
-use Rattle.oram.proofs.Endings.{one_more, open_done, open_passes, refused_at_once, request-refused, unfit_refuses}
+use Rattle.oram.proofs.Endings.{one_more, open_done, open_passes, refused_at_once, request_refused, unfit_refuses}
 use Rattle.oram.proofs.Laws.{lawful}
 use Rattle.oram.proofs.oram.Oram.open.Goals as goal
 
@@ -30,7 +30,7 @@ returns-in_err-request g c =
     let o' = c.request.new.self in
     let p = err_from_is_err_and c.from_residual-in_err-request.result c.from_residual-in_err-request.ensures.1 in
     let d : Does k s m cs o o' opening (done g.P.Fault.CardFault c.from_residual-in_err-request.result) =
-    rw (p.1, p.2) (request-refused k s m cs o g.P.Fault.CardFault o' o.opened None (open_time (records_of m o) o.opened) (open_passes (unfit_of s m o) (records_of m o) o.opened c.in_ok-fit.ensures (rw c.len.ensures at c.if-self-len.false)) opening refl _ c.in_err-request.ensures) in
+    rw (p.1, p.2) (request_refused k s m cs o g.P.Fault.CardFault o' o.opened None (open_time (records_of m o) o.opened) (open_passes (unfit_of s m o) (records_of m o) o.opened c.in_ok-fit.ensures (rw c.len.ensures at c.if-self-len.false)) opening refl _ c.in_err-request.ensures) in
     record { does = d; law = lawful k s m g.met.K.RecordKind.again cs o o' opening _ d }
 
 pub returns : goal.returns

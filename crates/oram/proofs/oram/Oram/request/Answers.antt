@@ -73,7 +73,7 @@ returns g c =
       same = λ e. absurd (false≢true e);
       frame = record {
         rows = record {
-          length-stays = d.frame.length-stays;
+          length_stays = d.frame.length_stays;
           rows_stay = rows_kept most_records D (s.log o.store) (s.log t) d.frame w.count w.span;
           unfit_stays = unfit_kept most_records D (s.log o.store) (s.log t) d.frame w.count w.span;
         };
@@ -84,9 +84,9 @@ returns g c =
           let a = asked D (m.leaves b) (m.leaves b') (m.rows b) (m.rows b') before after (s.span o.store) (s.log o.store) (s.log t) n shown
           cs c.args.put c.request_row-answer.result.words ord.1 (lower (d.done ord.0)) r p.depth c.requires.number p.leaves.0
           p.room in (
-            a.found-words,
+            a.found_words,
             record {
-              rows = ap (λ k. front_rows D (m.leaves b') k (s.log t) (m.rows b')) w.span ∙ a.all-rows;
+              rows = ap (λ k. front_rows D (m.leaves b') k (s.log t) (m.rows b')) w.span ∙ a.all_rows;
               arrives = r.arrives;
               arrives_as = a.arrives_as;
               row = a.row;

@@ -29,7 +29,7 @@ returns g c =
     tear_done k s m coins o o'
     (record {
       rows = record {
-        length-stays = ap length ep.leaves;
+        length_stays = ap length ep.leaves;
         rows_stay = ap fixed_of rows ∙ torn_fixed (front_rows D (m.leaves b) (s.span o.store) (s.log o.store) (m.rows b));
         unfit_stays = same_unfit most_records D (ap length es.holds) (ap length ep.leaves) (ap length ep.rows ∙ torn_long (m.rows b)) ep.unfit;
       };

@@ -2,7 +2,7 @@ use Rattle.std.proofs.Common.{◌≡◌, length, sym, ◌∙◌}
 use Rattle.std.proofs.lemmas.Result.{err_from_is_err_and}
 use Rattle.posmap.specs.Maps.{leaf_numbers}
 use Rattle.tree.specs.Queues.{queued}
-use Rattle.front.proofs.Fits.{request_five, request-rest}
+use Rattle.front.proofs.Fits.{request_five, request_rest}
 use Rattle.oram.specs.Orams.{most_records}
 use Rattle.oram.proofs.Cards.{level_card, same_place}
 use Rattle.oram.proofs.oram.Oram.tested.Goals as goal
@@ -27,7 +27,7 @@ returns-in_err-trial_request g c =
     let p = err_from_is_err_and c.from_residual-in_err-trial_request.result c.from_residual-in_err-trial_request.ensures.1 in
     same_place g.P.Fault.CardFault _ p.0 c.from_residual-in_err-trial_request.result p.1 p.2
     ∙ (c.in_err-trial_request.ensures
-    ∙ request-rest most_records o.depth (length (s.buckets o.store)) (s.span o.store) (m.leaves b) (m.rows b) (m.unfit b) (s.log o.store)
+    ∙ request_rest most_records o.depth (length (s.buckets o.store)) (s.span o.store) (m.leaves b) (m.rows b) (m.unfit b) (s.log o.store)
     (leaf_numbers c.args.coins.now) c.requires.fit (m.full b) (queued o.queue) c.args.number.0 c.requires.number c.in_ok-shares.ensures)
 
 pub returns : goal.returns
@@ -37,5 +37,5 @@ returns g c =
     let m = g.P.PositionMap in
     let s = g.S.BucketStore in
     c.in_ok-trial_request.ensures
-    ∙ request-rest most_records o.depth (length (s.buckets o.store)) (s.span o.store) (m.leaves b) (m.rows b) (m.unfit b) (s.log o.store)
+    ∙ request_rest most_records o.depth (length (s.buckets o.store)) (s.span o.store) (m.leaves b) (m.rows b) (m.unfit b) (s.log o.store)
     (leaf_numbers c.args.coins.now) c.requires.fit (m.full b) (queued o.queue) c.args.number.0 c.requires.number c.in_ok-shares.ensures

@@ -9,7 +9,7 @@ use Rattle.tree.specs.Entries.{request_entries}
 use Rattle.front.specs.Fronts.{in_range}
 use Rattle.oram.specs.Calls.{ArrivesAs}
 use Rattle.oram.specs.Rows.{words_found}
-use Rattle.oram.proofs.Arrivals.{arrives-fit}
+use Rattle.oram.proofs.Arrivals.{arrives_fit}
 use Rattle.oram.proofs.oram.work.request_row.Goals as goal
 
 pub unwrap-left-requires : goal.unwrap-left-requires
@@ -30,7 +30,7 @@ unwrap-left-requires g c =
     (c.second_half.ensures.answer
     ∙ second_passes D (length (g.S.BucketStore.buckets s1)) c.arrival-arrives.result ask.first ask.second (g.S.BucketStore.span s1)
     (length (g.S.BucketStore.log s1)) (length (queued c.unwrap-got.result.queue)) (rw c.fetch.ensures.count c.requires.fit)
-    (arrives-fit D (length (g.S.BucketStore.buckets s0)) ask.number.0 ask.new.0 c.or.result c.arrival-arrives.result c.requires.fit c.requires.leaves.0 c.arrival-arrives.ensures)
+    (arrives_fit D (length (g.S.BucketStore.buckets s0)) ask.number.0 ask.new.0 c.or.result c.arrival-arrives.result c.requires.fit c.requires.leaves.0 c.arrival-arrives.ensures)
     c.requires.leaves.1.0 c.requires.leaves.1.1 (omega arith) (omega arith))
 
 pub returns : goal.returns

@@ -1,6 +1,6 @@
 use Rattle.std.proofs.Common.{◌≡◌, ◌<◌, true, map, length, is_some, IfSome, sym, ap, ◌∙◌, subst, arith}
 use Rattle.tree.specs.Places.{lowest_empty}
-use Rattle.tree.proofs.ChoiceLaws.{best-chosen, best_keeps, best-moves, best-same, best_takes, best-within, score_at, scored}
+use Rattle.tree.proofs.ChoiceLaws.{best-chosen, best_keeps, best_moves, best_same, best_takes, best_within, score_at, scored}
 use Rattle.tree.proofs.bucket.Bucket.chosen.Goals as goal
 use Rattle.tree.proofs.bucket.Bucket.chosen.Goals.{then-score-top, else-score-top}
 
@@ -16,9 +16,9 @@ loop-i-preserved c =
     let s = score_at D m d ps i c.score-score.result _ h c.score-score.ensures in
     elim c.if-score-top.branch [
       | then-score-top w ↦
-          best-same ss _ _ _ _ _ w.top-is w.best-is (best_takes ss i _ _ _ s w.if-score-top.true c.loop-i.invariant)
+          best_same ss _ _ _ _ _ w.top-is w.best-is (best_takes ss i _ _ _ s w.if-score-top.true c.loop-i.invariant)
       | else-score-top w ↦
-          best-same ss _ _ _ _ _ w.top-is w.best-is (best_keeps ss i _ _ _ s w.if-score-top.false c.loop-i.invariant)
+          best_same ss _ _ _ _ _ w.top-is w.best-is (best_keeps ss i _ _ _ s w.if-score-top.false c.loop-i.invariant)
     ]
 
 pub returns : goal.returns
@@ -32,6 +32,6 @@ returns c =
     let room : is_some (lowest_empty child) ≡ true = ap is_some (sym c.lowest_empty.ensures.value) ∙ c.if-is_none.ensures in
     record {
       value = best-chosen D m d parent child _ _ _ n room c.loop-i.invariant;
-      moves = best-moves D m d parent child _ _ _ n room c.loop-i.invariant;
-      within = subst (λ k. IfSome c.loop-i.best (λ i. i < k)) (n ∙ c.args.self.now.four) (best-within _ _ _ _ c.loop-i.invariant);
+      moves = best_moves D m d parent child _ _ _ n room c.loop-i.invariant;
+      within = subst (λ k. IfSome c.loop-i.best (λ i. i < k)) (n ∙ c.args.self.now.four) (best_within _ _ _ _ c.loop-i.invariant);
     }

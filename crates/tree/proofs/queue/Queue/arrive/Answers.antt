@@ -1,12 +1,12 @@
 use Rattle.std.proofs.Common.{refl, ap, ◌∙◌, arith, length-set}
 use Rattle.tree.specs.Blocks.{apart}
 use Rattle.tree.specs.Queues.{queued}
-use Rattle.tree.proofs.QueueLaws.{apart_push, count-full, count_room, come_last, accepted, not_when_full, not_when_known}
+use Rattle.tree.proofs.QueueLaws.{apart_push, count_full, count_room, come_last, accepted, not_when_full, not_when_known}
 use Rattle.tree.proofs.queue.Queue.arrive.Goals as goal
 
 pub returns-then-is_full : goal.returns-then-is_full
 returns-then-is_full c =
-    let full = count-full c.args.self c.if-is_full.ensures in
+    let full = count_full c.args.self c.if-is_full.ensures in
     (not_when_full c.args.self c.args.block full, refl, refl)
 
 pub bounds-blocks-self : goal.bounds-blocks-self

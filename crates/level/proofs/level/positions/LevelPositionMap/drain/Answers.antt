@@ -3,7 +3,7 @@ use Rattle.posmap.specs.Maps.{drain_refusal, leaf_numbers}
 use Rattle.row.specs.Rows.{decoded_row}
 use Rattle.std.proofs.lemmas.Bool.{false≢true}
 use Rattle.level.proofs.CoinTests.{length_numbers}
-use Rattle.level.proofs.Outcomes.{drain-done, drain-ordered, level_frame, row_drained}
+use Rattle.level.proofs.Outcomes.{drain_done, drain_ordered, level_frame, row_drained}
 use Rattle.level.proofs.Passed.{drain_passed, no_card}
 use Rattle.level.proofs.TrialAnswers.{left}
 use Rattle.level.proofs.level.positions.LevelPositionMap.drain.Goals as goal
@@ -57,14 +57,14 @@ returns g c =
           (g.S.BucketStore.log t) d.frame w.count w.span;
       order = λ o. (
         d.order o.0,
-        drain-ordered s.depth count (length (g.S.BucketStore.buckets t)) span (g.S.BucketStore.span t) below
+        drain_ordered s.depth count (length (g.S.BucketStore.buckets t)) span (g.S.BucketStore.span t) below
             (g.P.PositionMap.leaves n) rows (g.P.PositionMap.rows n) unfit (g.P.PositionMap.unfit n) before after log
             (g.S.BucketStore.log t) d.frame w.count w.span xs r o.1 (d.done o.0),
       );
       refused = λ e. absurd (false≢true e);
       same = λ e. absurd (false≢true e);
-      done = λ o. drain-done s.depth count (length (g.S.BucketStore.buckets t)) span (g.S.BucketStore.span t) below
+      done = λ o. drain_done s.depth count (length (g.S.BucketStore.buckets t)) span (g.S.BucketStore.span t) below
           (g.P.PositionMap.leaves n) rows (g.P.PositionMap.rows n) unfit (g.P.PositionMap.unfit n) before after log
-          (g.S.BucketStore.log t) d.frame w.count w.span xs r o.1 (d.done o.0) p.0.whole-fit;
+          (g.S.BucketStore.log t) d.frame w.count w.span xs r o.1 (d.done o.0) p.0.whole_fit;
       does = (subst (λ cs. g.P.PositionMap.drained s.below cs n) (left 1 xs) d.does, r, refl, w.span, w.count);
     }

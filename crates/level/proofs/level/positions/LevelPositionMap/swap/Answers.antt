@@ -3,7 +3,7 @@ use Rattle.posmap.specs.Maps.{SwapDone, leaf_numbers, leaves_per_page, swap_refu
 use Rattle.row.specs.Rows.{decoded_row}
 use Rattle.std.proofs.lemmas.Bool.{false≢true}
 use Rattle.level.proofs.CoinTests.{at, length_numbers, numbers_at}
-use Rattle.level.proofs.Outcomes.{level_frame, row-asked, swap_done, swap_ordered}
+use Rattle.level.proofs.Outcomes.{level_frame, row_asked, swap_done, swap_ordered}
 use Rattle.level.proofs.Passed.{no_card, swap_passed}
 use Rattle.level.proofs.TrialAnswers.{left}
 use Rattle.level.proofs.level.positions.LevelPositionMap.swap.Goals as goal
@@ -85,7 +85,7 @@ returns g c =
     let w = c.swap_in_row-answer.ensures in
     let shown = c.in_ok-shown.shown.0 in
     let rest = leaf_numbers (take (length xs - 3) (drop 3 xs)) in
-    let r = row-asked s.depth count (length (g.S.BucketStore.buckets t)) span (g.S.BucketStore.span t) below below' rows rows'
+    let r = row_asked s.depth count (length (g.S.BucketStore.buckets t)) span (g.S.BucketStore.span t) below below' rows rows'
     unfit (g.P.PositionMap.unfit n) before after log (g.S.BucketStore.log t) d.frame w.count w.span i new shown xs
     w.row in
     let lower : SwapDone below below' rows rows' c.page_number.result.0 (at xs 0) rest shown
@@ -108,7 +108,7 @@ returns g c =
       done = λ o. swap_done s.depth count (length (g.S.BucketStore.buckets t)) span (g.S.BucketStore.span t) below below' rows
           rows' unfit (g.P.PositionMap.unfit n) before after log (g.S.BucketStore.log t) d.frame w.count w.span i new
           shown xs r o.1 (lower (d.done o.0)) p.0.number p.0.leaves.0 p.1 c.swap_in_row-answer.result.leaf.0
-          p.0.whole-fit w.answer;
+          p.0.whole_fit w.answer;
       does = (
         subst (λ cs. does (i / leaves_per_page) (get_or (leaf_numbers xs) 0 0) cs n) (left 3 xs)
             (subst (λ m. does (i / leaves_per_page) m rest n) (numbers_at xs 0)

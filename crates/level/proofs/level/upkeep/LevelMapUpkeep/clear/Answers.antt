@@ -1,6 +1,6 @@
 use Rattle.std.proofs.Common.{length, refl}
 use Rattle.row.specs.Rows.{decoded_row}
-use Rattle.level.proofs.Cleared.{cleared-again, cleared-full, cleared_order, cleared-rows, cleared_unfit}
+use Rattle.level.proofs.Cleared.{cleared_again, cleared_full, cleared_order, cleared_rows, cleared_unfit}
 use Rattle.level.proofs.level.upkeep.LevelMapUpkeep.clear.Goals as goal
 
 pub returns : goal.returns
@@ -20,14 +20,14 @@ returns g c =
     let q = c.empty-self.result in
     let e = c.empty-self.ensures in
     record {
-      leaves = cleared-again D (bs s) (bs s') q (ls p) (ls p') (rs p) (rs p') (us p) (us p') es.holds e ep.leaves ep.rows
+      leaves = cleared_again D (bs s) (bs s') q (ls p) (ls p') (rs p) (rs p') (us p) (us p') es.holds e ep.leaves ep.rows
           ep.unfit (decoded_row (bs s) v.queue);
-      rows = cleared-rows D (bs s) (bs s') q (ls p) (ls p') (rs p) (rs p') (us p) (us p') es.holds e ep.leaves ep.rows
+      rows = cleared_rows D (bs s) (bs s') q (ls p) (ls p') (rs p) (rs p') (us p) (us p') es.holds e ep.leaves ep.rows
           ep.unfit (g.S.BucketStore.span s) (g.S.BucketStore.span s') (g.S.BucketStore.log s) (g.S.BucketStore.log s')
           es.spans es.empties;
       unfit = cleared_unfit D (bs s) (bs s') q (ls p) (ls p') (rs p) (rs p') (us p) (us p') es.holds e ep.leaves ep.rows
           ep.unfit;
-      full = cleared-full D (bs s) (bs s') q (ls p) (ls p') (rs p) (rs p') (us p) (us p') es.holds e ep.leaves ep.rows
+      full = cleared_full D (bs s) (bs s') q (ls p) (ls p') (rs p) (rs p') (us p) (us p') es.holds e ep.leaves ep.rows
           ep.unfit (g.P.PositionMap.full p') ep.full;
       order = (
         ep.order,

@@ -18,10 +18,10 @@ returns c =
     let e = take-set-lt s.len s.table i new within in
     record {
       card = passed;
-      frame = record { length-stays = ap length e ∙ length-set (flat_leaves s) i new; rows_stay = refl; unfit_stays = refl };
+      frame = record { length_stays = ap length e ∙ length-set (flat_leaves s) i new; rows_stay = refl; unfit_stays = refl };
       order = λ u. u;
       refused = λ f. absurd (both_ways false refl f);
-      done = λ _. record { shown = sym (get_or-take s.len s.table i 0 within); sets_leaf = e; rows-asked = refl };
+      done = λ _. record { shown = sym (get_or-take s.len s.table i 0 within); sets_leaf = e; rows_asked = refl };
       does = record { table_is = refl; len_stays = refl };
       same = λ f. absurd (both_ways false refl f);
     }

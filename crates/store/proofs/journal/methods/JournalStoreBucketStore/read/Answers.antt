@@ -8,7 +8,7 @@ use Rattle.store.specs.Shapes.{length_numbers}
 use Rattle.store.specs.Stores.{bucket_words, is_bucket}
 use Rattle.store.specs.Tails.{entry_words, read_entry, tail_span}
 use Rattle.store.proofs.Journaling.{added_long, added_number, added_read, journal_long, still_free}
-use Rattle.store.proofs.Transfers.{admitted, done-answer, refused-answer}
+use Rattle.store.proofs.Transfers.{admitted, done_answer, refused_answer}
 use Rattle.store.proofs.journal.methods.JournalStoreBucketStore.read.Goals as goal
 
 pub returns-in_err-start : goal.returns-in_err-start
@@ -17,7 +17,7 @@ returns-in_err-start c =
     let p = err_from_is_err_and c.from_residual.result c.from_residual.ensures.1 in
     let count = c.count_buckets.ensures ∙ ap bucket_count (c.len.ensures ∙ s.base.ok.0) in
     rw (p.1, p.2) (record {
-      answer = refused-answer 1 c.span.result s.used c.count_buckets.result (journal_span s) (journal_log s) (journal_buckets s)
+      answer = refused_answer 1 c.span.result s.used c.count_buckets.result (journal_span s) (journal_log s) (journal_buckets s)
           c.args.n.0 _ _ c.span.ensures (length_numbers s.used s.tail.items)
           (journal_long s.used s.tail.items s.base.items ∙ sym count) c.in_err-start.ensures;
       place = refl;
@@ -56,7 +56,7 @@ returns c =
     let laid = with_items_is s.tail c.append.new.tail (c.append.auto.tail ∙ c.deref_mut.ensures.len)
     ∙ c.append.ensures ∙ ap (λ xs. overwritten xs (entry_words * s.used) (read_entry n)) c.deref_mut.ensures.value in
     record {
-      answer = done-answer 1 c.span.result s.used c.count_buckets.result (journal_span s) (journal_log s) (journal_buckets s) n
+      answer = done_answer 1 c.span.result s.used c.count_buckets.result (journal_span s) (journal_log s) (journal_buckets s) n
           c.span.ensures (length_numbers s.used s.tail.items)
           (journal_long s.used s.tail.items s.base.items ∙ sym count) a.none;
       place = c.look_up.ensures.place;

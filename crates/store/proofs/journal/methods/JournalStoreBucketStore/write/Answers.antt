@@ -8,7 +8,7 @@ use Rattle.store.specs.Shapes.{length_numbers}
 use Rattle.store.specs.Stores.{bucket_words, is_bucket}
 use Rattle.store.specs.Tails.{entry_words, write_entry, tail_span}
 use Rattle.store.proofs.Journaling.{added_long, added_number, added_write, base_bucket, journal_long, still_free}
-use Rattle.store.proofs.Transfers.{admitted, done-answer, refused-answer}
+use Rattle.store.proofs.Transfers.{admitted, done_answer, refused_answer}
 use Rattle.store.proofs.journal.methods.JournalStoreBucketStore.write.Goals as goal
 
 pub returns-in_err-_start : goal.returns-in_err-_start
@@ -17,7 +17,7 @@ returns-in_err-_start c =
     let p = err_from_is_err_and c.from_residual.result c.from_residual.ensures.1 in
     let count = c.count_buckets.ensures ∙ ap bucket_count (c.len.ensures ∙ s.base.ok.0) in
     rw (p.1, p.2) (record {
-      answer = refused-answer 1 c.span.result s.used c.count_buckets.result (journal_span s) (journal_log s) (journal_buckets s)
+      answer = refused_answer 1 c.span.result s.used c.count_buckets.result (journal_span s) (journal_log s) (journal_buckets s)
           c.args.n.0 _ _ c.span.ensures (length_numbers s.used s.tail.items)
           (journal_long s.used s.tail.items s.base.items ∙ sym count) c.in_err-_start.ensures;
       enters = refl;
@@ -50,7 +50,7 @@ returns c =
     let whole = journal_long s.used s.tail.items s.base.items ∙ sym count in
     let there = base_bucket s.used s.tail.items s.base.items n (ap (λ l. is_bucket l n) whole ∙ a.there) in
     record {
-      answer = done-answer 1 c.span.result s.used c.count_buckets.result (journal_span s) (journal_log s) (journal_buckets s) n
+      answer = done_answer 1 c.span.result s.used c.count_buckets.result (journal_span s) (journal_log s) (journal_buckets s) n
           c.span.ensures (length_numbers s.used s.tail.items) whole a.none;
       enters = added_number s.tail.items s.used 1 n ys _ free long laid;
       holds = added_write s.tail.items s.used 1 n ys _ free long laid (buckets_in s.base.items) refl there.0;

@@ -4,7 +4,7 @@ use Rattle.store.specs.Stores.{bucket_words}
 use Rattle.store.specs.Layout.{bucket_count, buckets_in, blanked, used_words}
 use Rattle.store.specs.Shapes.{length-replayed}
 use Rattle.store.proofs.Pieces.{drop-blanked}
-use Rattle.store.proofs.Logs.{buckets-blanked}
+use Rattle.store.proofs.Logs.{buckets_blanked}
 use Rattle.store.proofs.journal.methods.JournalStoreStoreUpkeep.clear.Goals as goal
 
 pub returns : goal.returns
@@ -16,7 +16,7 @@ returns c =
     ∙ c.blank.ensures ∙ ap (λ xs. blanked (bucket_words * c.count_buckets-end.result) xs) c.deref_mut.ensures.value
     ∙ ap (λ k. blanked (bucket_words * k) ws) count in
     record {
-      holds = (buckets-blanked ws _ words).1 ∙ ap (λ k. replicate k (replicate bucket_words 0)) (sym (length-replayed s.used s.tail.items (buckets_in ws)));
+      holds = (buckets_blanked ws _ words).1 ∙ ap (λ k. replicate k (replicate bucket_words 0)) (sym (length-replayed s.used s.tail.items (buckets_in ws)));
       empties = refl;
       spans = refl;
       base = words;

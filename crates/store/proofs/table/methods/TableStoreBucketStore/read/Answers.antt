@@ -4,8 +4,8 @@ use Rattle.std.proofs.lemmas.Bool.{true≢false}
 use Rattle.store.specs.Stores.{bucket_words}
 use Rattle.store.specs.Layout.{bucket_count, buckets_in}
 use Rattle.store.specs.Tables.{table_buckets, table_span, table_log}
-use Rattle.store.proofs.Logs.{buckets_long, log_long, bucket-words}
-use Rattle.store.proofs.Transfers.{admitted, refused-answer, done-answer}
+use Rattle.store.proofs.Logs.{buckets_long, log_long, bucket_words_lem}
+use Rattle.store.proofs.Transfers.{admitted, refused_answer, done_answer}
 use Rattle.store.proofs.table.methods.TableStoreBucketStore.read.Goals as goal
 
 pub returns-in_err-at : goal.returns-in_err-at
@@ -14,7 +14,7 @@ returns-in_err-at c =
     let p = err_from_is_err_and c.from_residual.result c.from_residual.ensures.1 in
     let count = c.count_buckets.ensures ∙ ap bucket_count (c.len.ensures ∙ s.words.ok.0) in
     rw (p.1, p.2) (record {
-      answer = refused-answer 1 c.span.result s.used c.count_buckets.result (table_span s) (table_log s) (table_buckets s) c.args.n.0 _ _
+      answer = refused_answer 1 c.span.result s.used c.count_buckets.result (table_span s) (table_log s) (table_buckets s) c.args.n.0 _ _
           c.span.ensures (log_long s.entries.items s.used s.few) (buckets_long s.words.items ∙ sym count) c.in_err-at.ensures;
       place = refl;
       enters = refl;
@@ -38,12 +38,12 @@ returns c =
     let count = c.count_buckets.ensures ∙ ap bucket_count (c.len.ensures ∙ s.words.ok.0) in
     let a = admitted 1 c.span.result s.used c.count_buckets.result n _ _ c.in_ok-at.ensures in
     record {
-      answer = done-answer 1 c.span.result s.used c.count_buckets.result (table_span s) (table_log s) (table_buckets s) n
+      answer = done_answer 1 c.span.result s.used c.count_buckets.result (table_span s) (table_log s) (table_buckets s) n
           c.span.ensures (log_long s.entries.items s.used s.few) (buckets_long s.words.items ∙ sym count) a.none;
       place = c.copy_out.ensures
           ∙ ap (λ ws. take bucket_words (drop c.in_ok-at.at ws)) c.deref.ensures.value
           ∙ ap (λ at. take bucket_words (drop at s.words.items)) a.same
-          ∙ bucket-words s.words.items n a.low (omega (arith, a.high, count));
+          ∙ bucket_words_lem s.words.items n a.low (omega (arith, a.high, count));
       enters = c.enter.ensures.enters;
       holds = ap buckets_in c.enter.ensures.words;
       spans = c.enter.ensures.spans;

@@ -3,7 +3,7 @@ use Rattle.std.proofs.lemmas.List.{with_items_is}
 use Rattle.store.specs.Stores.{bucket_words}
 use Rattle.store.specs.Layout.{bucket_count, blanked, used_words}
 use Rattle.store.proofs.Pieces.{drop-blanked}
-use Rattle.store.proofs.Logs.{buckets-blanked}
+use Rattle.store.proofs.Logs.{buckets_blanked}
 use Rattle.store.proofs.table.methods.TableStoreStoreUpkeep.clear.Goals as goal
 
 pub returns : goal.returns
@@ -17,7 +17,7 @@ returns c =
     ∙ c.blank.ensures ∙ ap (λ xs. blanked (bucket_words * c.count_buckets-end.result) xs) c.deref_mut.ensures.value
     ∙ ap (λ k. blanked (bucket_words * k) ws) count in
     record {
-      holds = (buckets-blanked ws _ words).1;
+      holds = (buckets_blanked ws _ words).1;
       empties = torn.empties;
       spans = torn.spans;
       words = words;
