@@ -1,5 +1,5 @@
 -- A flush over the three buckets of a path of depth 2.
-use Rattle.std.specs.Prelude.{◌≡◌, ℕ, List, [], ◌∷◌}
+use Rattle.std.specs.Prelude.{◌≡◌, ℕ, List}
 use Rattle.bench.specs.declared.flushes.PathOfThree.{PathOfThree}
 use Rattle.tree.specs.Choice.{moved_child, moved_parent}
 use Rattle.tree.specs.declared.place.Place.{Place}

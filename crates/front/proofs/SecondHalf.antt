@@ -11,7 +11,7 @@ use Rattle.tree.specs.Paths.{is_depth, is_leaf}
 use Rattle.tree.proofs.Counts.{entry_counts}
 use Rattle.row.specs.declared.fault.RowFault.{RowFault}
 use Rattle.row.specs.declared.fault.RowFault.TheVariants.{Unfit, NoLeaf, LogFull, QueueFull}
-use Rattle.row.specs.Trials.{first_fault, room_left, is_fit, refusal_by, tree_buckets}
+use Rattle.row.specs.Trials.{first_fault, has_room, is_fit, refusal_by, tree_buckets}
 use Rattle.row.proofs.RowLaws.{passes}
 use Rattle.front.specs.Fronts.{arrival_fits, second_moves, second_refusal, waiting_for}
 
@@ -59,13 +59,13 @@ pub second_passed : (D count : ℕ) (arrives : Option Block) (first second : Lea
     → None ≡ second_refusal D count arrives first second span used waiting → SecondPassed D count first second span used
 second_passed D count arrives first second span used waiting e =
     let p = all_passed (is_fit D count) (arrival_fits D arrives && (is_leaf D first.0 && is_leaf D second.0))
-    (leb (used + second_moves D) span) (room_left (waiting_for arrives waiting)) e in
+    (leb (used + second_moves D) span) (has_room (waiting_for arrives waiting)) e in
     let l = and_parts (arrival_fits D arrives) _ p.1 in
     let m = and_parts (is_leaf D first.0) (is_leaf D second.0) l.1 in
     record { fit = p.0; along_first = m.0; along_second = m.1; free = leb-true _ _ p.2 }
 
 -- and the other way round
-room_passes : (arrives : Option Block) (waiting : ℕ) → waiting < capacity → room_left (waiting_for arrives waiting) ≡ true
+room_passes : (arrives : Option Block) (waiting : ℕ) → waiting < capacity → has_room (waiting_for arrives waiting) ≡ true
 room_passes None waiting l = refl
 room_passes (Some b) waiting l = lt-ltb waiting capacity l
 

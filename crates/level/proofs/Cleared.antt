@@ -1,7 +1,6 @@
 -- What clearing and tearing off leave of a level.
-use Rattle.std.proofs.Common.{◌≡◌, ℕ, zero, suc, ◌*◌, List, [], ◌∷◌, map, length, replicate, Some, None, Option, sym, refl, ap, ◌∙◌, subst}
+use Rattle.std.proofs.Common.{◌≡◌, ℕ, zero, suc, List, [], ◌∷◌, map, length, replicate, Some, None, Option, sym, refl, ap, ◌∙◌}
 use Rattle.std.proofs.lemmas.List.{length-replicate}
-use Rattle.tree.specs.declared.block.Block.{Block}
 use Rattle.tree.specs.declared.queue.Queue.{Queue}
 use Rattle.tree.specs.Places.{places_of}
 use Rattle.tree.specs.Queues.{queued}

@@ -1,5 +1,5 @@
 -- The tests of a row's own coins, one by one.
-use Rattle.std.proofs.Common.{◌≡◌, ℕ, zero, suc, ◌^◌, ◌<◌, ◌≤◌, Bool, true, false, ◌&&◌, ltb, List, [], ◌∷◌, length, get_or, drop, sym, refl, ap, ◌∙◌, arith}
+use Rattle.std.proofs.Common.{◌≡◌, ℕ, zero, suc, ◌^◌, ◌≤◌, Bool, true, false, ◌&&◌, ltb, List, [], ◌∷◌, length, get_or, drop, sym, refl, ap, ◌∙◌, arith}
 use Rattle.tree.specs.declared.numbers.Leaf.{Leaf}
 use Rattle.tree.specs.Paths.{is_depth, is_leaf}
 use Rattle.posmap.specs.Maps.{coins_below, leaf_numbers}

@@ -1,14 +1,12 @@
 -- What a swap and a drain keep and do, of a level in order.
-use Rattle.std.proofs.Common.{◌≡◌, ℕ, zero, suc, ◌+◌, ◌*◌, ◌/◌, ◌%◌, ◌^◌, ◌<◌, ◌≤◌, Bool, true, false, cond, List, [], ◌∷◌, ◌++◌, length, get_or, drop, set, replicate, Some, None, Option, sym, refl, ap, ◌∙◌, mod-eq_of_lt, arith}
-use Rattle.std.specs.Option.{option_map}
+use Rattle.std.proofs.Common.{◌≡◌, ℕ, suc, ◌*◌, ◌/◌, ◌%◌, ◌^◌, ◌<◌, ◌≤◌, List, [], ◌∷◌, ◌++◌, length, get_or, drop, set, Some, sym, ap, ◌∙◌, mod-eq_of_lt, arith}
 use Rattle.std.proofs.ByRecursion.{All-get_or}
 use Rattle.std.proofs.lemmas.List.{get_or-set_same, length-set}
 use Rattle.std.proofs.lemmas.Bool.{cond_both}
 use Rattle.tree.specs.declared.block.Block.{Block}
-use Rattle.tree.specs.Blocks.{block_of, capacity, numbered, others}
+use Rattle.tree.specs.Blocks.{capacity, numbered, others}
 use Rattle.tree.specs.Entries.{drain_entries, request_entries}
-use Rattle.steps.specs.Laws.{row_blocks}
-use Rattle.steps.specs.Steps.{Row, dequeued, fetched, found, second_half}
+use Rattle.steps.specs.Steps.{Row, fetched, found, second_half}
 use Rattle.steps.specs.Order.{FirstHalf, InOrder, SecondHalf, content}
 use Rattle.steps.proofs.Order.{order_kept}
 use Rattle.posmap.specs.Maps.{DrainDone, MapRow, SwapDone, rows_drained, rows_swapped}

@@ -1,5 +1,5 @@
 -- What an accepted call leaves of a level, as the interface says it.
-use Rattle.std.proofs.Common.{◌≡◌, ℕ, suc, ◌-◌, ◌*◌, ◌/◌, ◌%◌, ◌^◌, ◌<◌, ◌≤◌, Bool, true, false, List, [], ◌∷◌, ◌++◌, length, get_or, take, drop, set, Some, None, Option, sym, refl, ap, ◌∙◌, subst, arith}
+use Rattle.std.proofs.Common.{◌≡◌, ℕ, suc, ◌-◌, ◌*◌, ◌/◌, ◌%◌, ◌^◌, ◌<◌, List, [], ◌∷◌, ◌++◌, length, get_or, take, drop, set, Some, None, Option, sym, refl, ap, ◌∙◌, subst}
 use Rattle.tree.specs.declared.numbers.Leaf.{Leaf}
 use Rattle.tree.specs.Blocks.{capacity}
 use Rattle.tree.specs.Entries.{drain_entries, request_entries}
@@ -10,7 +10,6 @@ use Rattle.level.specs.Levels.{RowDrained, RowSwapped, level_leaves, level_rows,
 use Rattle.level.specs.Facts.{length_pages}
 use Rattle.level.proofs.CoinTests.{at, numbers_at}
 use Rattle.level.proofs.InOrderStill.{Drained, Swapped, drain_in_order, swap_in_order}
-use Rattle.level.proofs.Passed.{DrainPassed, SwapPassed}
 use Rattle.level.proofs.TrialAnswers.{left}
 
 -- as many rows as before

@@ -1,16 +1,15 @@
 -- What a level's trial tells that has passed.
-use Rattle.std.proofs.Common.{◌≡◌, ℕ, suc, ◌+◌, ◌*◌, ◌/◌, ◌^◌, ◌<◌, ◌≤◌, min, Bool, true, false, cond, not, ◌&&◌, ◌||◌, eqb, ltb, leb, List, [], ◌∷◌, length, get_or, take, drop, Some, None, Option, sym, refl, ap, ◌∙◌, inl, inr, arith}
+use Rattle.std.proofs.Common.{◌≡◌, ℕ, suc, ◌+◌, ◌*◌, ◌/◌, ◌^◌, ◌<◌, ◌≤◌, Bool, true, false, cond, not, ◌&&◌, ◌||◌, eqb, ltb, leb, List, [], ◌∷◌, length, get_or, drop, Some, None, Option, sym, refl, ◌∙◌, inl, inr, arith}
 use Rattle.std.proofs.lemmas.List.{length-take}
 use Rattle.std.proofs.lemmas.Bool.{and_parts, cases_lt, eqb-false, eqb-true, leb-true, ltb-true, not-true}
-use Rattle.tree.specs.declared.block.Block.{Block}
 use Rattle.tree.specs.declared.queue.Queue.{Queue}
 use Rattle.tree.specs.Blocks.{capacity}
 use Rattle.tree.specs.Entries.{drain_moves, request_moves}
 use Rattle.tree.specs.Queues.{queued}
 use Rattle.steps.specs.Steps.{Row}
 use Rattle.posmap.specs.Maps.{Card, MapRow, coins_below, drain_refusal, leaves_per_page, naming, or_else, swap_refusal, unless}
-use Rattle.level.specs.Levels.{first_card, level_full, level_leaves, level_rows, level_unfit, own, own_drain_refusal, own_fit, own_swap_refusal, raised}
-use Rattle.level.specs.Facts.{fit_length, none_unfit}
+use Rattle.level.specs.Levels.{first_card, level_full, level_leaves, level_rows, level_unfit, own_fit, raised}
+use Rattle.level.specs.Facts.{fit_length}
 use Rattle.level.proofs.OwnTests.{Fits, fits}
 use Rattle.level.proofs.Refusals.{drain_refusal_lem, swap_refusal_lem}
 use Rattle.level.proofs.TrialAnswers.{unfit_both}

@@ -1,12 +1,12 @@
 -- The steps of a request in a level's own row: none is refused, and together they are what is said of a swap.
-use Rattle.std.proofs.Common.{◌≡◌, ℕ, zero, suc, ◌+◌, ◌-◌, ◌*◌, ◌/◌, ◌%◌, ◌^◌, ◌<◌, ◌≤◌, Bool, true, false, ltb, leb, List, [], ◌∷◌, ◌++◌, length, get_or, is_ok, Some, None, Ok, Err, Option, Result, sym, refl, ap, ◌∙◌, arith}
+use Rattle.std.proofs.Common.{◌≡◌, ℕ, ◌+◌, ◌*◌, ◌/◌, ◌%◌, ◌^◌, ◌<◌, ◌≤◌, true, leb, List, [], ◌∷◌, ◌++◌, length, get_or, is_ok, Some, None, Ok, Err, Option, Result, sym, refl, ap, ◌∙◌, arith}
 use Rattle.std.specs.Result.{result_err}
 use Rattle.std.proofs.lemmas.List.{append_assoc, append-nil, length-append}
 use Rattle.std.proofs.lemmas.Bool.{and_from, and_parts, leb-true, lt-ltb}
 use Rattle.tree.specs.declared.block.Block.{Block}
 use Rattle.tree.specs.declared.numbers.Leaf.{Leaf}
-use Rattle.tree.specs.Blocks.{capacity, others}
-use Rattle.tree.specs.Entries.{dequeue_entries, fetch_entries, request_entries, request_moves}
+use Rattle.tree.specs.Blocks.{capacity}
+use Rattle.tree.specs.Entries.{dequeue_entries, fetch_entries, request_entries}
 use Rattle.tree.specs.Paths.{is_depth}
 use Rattle.tree.proofs.Counts.{entry_counts}
 use Rattle.steps.specs.Steps.{Row, arriving, dequeued, fetched, found, second_half}

@@ -1,12 +1,12 @@
 -- What a level's trial answers, from what it asked of itself and of the map below.
-use Rattle.std.proofs.Common.{◌≡◌, ℕ, ◌-◌, ◌*◌, ◌/◌, ◌≤◌, Bool, true, false, List, length, get_or, take, drop, is_some, Some, None, Option, sym, refl, ap, ◌∙◌, arith}
+use Rattle.std.proofs.Common.{◌≡◌, ℕ, ◌-◌, ◌*◌, ◌/◌, ◌≤◌, Bool, true, false, List, length, take, drop, is_some, Some, None, Option, sym, refl, ap, ◌∙◌, arith}
 use Rattle.std.proofs.lemmas.List.{take_rest}
 use Rattle.tree.specs.declared.block.Block.{Block}
 use Rattle.tree.specs.declared.numbers.Leaf.{Leaf}
 use Rattle.steps.specs.Steps.{Row}
-use Rattle.posmap.specs.Maps.{Card, MapRow, drain_refusal, leaf_numbers, leaves_per_page, swap_refusal}
+use Rattle.posmap.specs.Maps.{Card, MapRow, drain_refusal, leaf_numbers, swap_refusal}
 use Rattle.level.specs.Levels.{first_card, level_full, level_leaves, level_rows, level_unfit, own_drain_refusal, own_fit, own_swap_refusal}
-use Rattle.level.specs.Facts.{fit_length, length_pages}
+use Rattle.level.specs.Facts.{fit_length}
 use Rattle.level.proofs.CoinTests.{at, length_numbers, numbers_at, numbers_drop}
 use Rattle.level.proofs.OwnTests.{fits}
 use Rattle.level.proofs.Refusals.{drain_refusal_lem, swap_refusal_lem}

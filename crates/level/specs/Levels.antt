@@ -1,14 +1,11 @@
 -- A level: a row whose pages hold the leaves of the numbers above it, over a map that has a leaf for each page.
-use Rattle.std.specs.Prelude.{◌≡◌, ℕ, zero, suc, ◌+◌, ◌*◌, ◌/◌, ◌%◌, ◌^◌, ◌<◌, ◌≤◌, min, Bool, true, false, cond, not, ◌&&◌, ◌||◌, List, [], ◌∷◌, ◌++◌, length, replicate, is_some, Some, None, Option, ◌==◌, nat_le, nat_lt, slice_index, slice_set}
-use Rattle.std.specs.Option.{option_map, unwrap_or}
+use Rattle.std.specs.Prelude.{◌≡◌, ℕ, zero, suc, ◌+◌, ◌*◌, ◌/◌, ◌%◌, ◌^◌, min, Bool, cond, not, ◌&&◌, ◌||◌, List, [], ◌∷◌, ◌++◌, length, replicate, Some, None, Option, ◌==◌, nat_le, nat_lt, slice_index, slice_set}
+use Rattle.std.specs.Option.{option_map}
 use Rattle.tree.specs.declared.block.Block.{Block}
-use Rattle.tree.specs.declared.queue.Queue.{Queue}
 use Rattle.tree.specs.Blocks.{capacity}
 use Rattle.tree.specs.Entries.{drain_entries, drain_moves, request_entries, request_moves}
-use Rattle.tree.specs.Queues.{queued}
-use Rattle.steps.specs.Order.{InOrder, content}
+use Rattle.steps.specs.Order.{content}
 use Rattle.steps.specs.Steps.{Row, dequeued, fetched, found, second_half}
-use Rattle.row.specs.Rows.{decoded_row}
 use Rattle.row.specs.Trials.{is_fit}
 use Rattle.posmap.specs.Faults.{last_row}
 use Rattle.posmap.specs.Maps.{Card, MapRow, coins_below, coins_per_drain, coins_per_request, leaves_per_page, or_else, unless, widest_leaf}

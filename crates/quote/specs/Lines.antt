@@ -1,5 +1,5 @@
 -- What the reading of a line of depths answers.
-use Rattle.std.specs.Prelude.{◌≡◌, ℕ, ◌≤◌, true, IfSome, Option}
+use Rattle.std.specs.Prelude.{◌≡◌, ℕ, true, IfSome, Option}
 use Rattle.tree.specs.Paths.{is_depth}
 
 -- a number, where there is one, is a depth

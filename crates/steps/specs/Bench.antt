@@ -1,5 +1,5 @@
 -- The bench cases: a table of what the definitions give beside what the rules say.
-use Rattle.std.specs.Prelude.{◌≡◌, ℕ, ◌+◌, List, [], ◌∷◌, ◌++◌, length, replicate, refl}
+use Rattle.std.specs.Prelude.{◌≡◌, ℕ, ◌+◌, List, [], ◌∷◌, length, replicate, refl}
 use Rattle.std.specs.List.{flat_map, AllByRecursion as All}
 use Rattle.tree.specs.declared.place.Place.{Place}
 use Rattle.tree.specs.Entries.{drain_entries, flush_entries, request_entries}

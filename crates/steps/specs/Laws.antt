@@ -1,12 +1,11 @@
 -- What holds of the steps of a row, whatever it holds.
-use Rattle.std.specs.Prelude.{◌≡◌, ℕ, zero, suc, ◌+◌, ◌-◌, ◌^◌, ◌<◌, ◌≤◌, Bool, true, false, List, [], ◌∷◌, ◌++◌, length, IfSome, Some, None, Option, ◌≢◌}
+use Rattle.std.specs.Prelude.{◌≡◌, ℕ, zero, suc, ◌^◌, ◌<◌, ◌≤◌, true, List, [], ◌++◌, length, IfSome, Option, ◌≢◌}
 use mathlib.Core.List.{Permᴰ}
 use Rattle.std.specs.List.{flat_map, AllByRecursion as All}
 use Rattle.tree.specs.declared.block.Block.{Block}
-use Rattle.tree.specs.declared.place.Place.{Place}
 use Rattle.tree.specs.Blocks.{others, block_of, apart}
 use Rattle.tree.specs.Paths.{path}
-use Rattle.tree.specs.Places.{has_block, blocks_in}
+use Rattle.tree.specs.Places.{blocks_in}
 use Rattle.steps.specs.Steps.{Buckets, Row, bucket, fetched, found, arriving, put_back, flushed, dequeued, dequeued_all, second_half}
 
 -- all blocks of a row: the queue's, then those of each bucket

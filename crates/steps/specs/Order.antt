@@ -1,5 +1,5 @@
 -- A row in order, and what its steps then keep: its numbers find the words that they were given.
-use Rattle.std.specs.Prelude.{◌≡◌, ℕ, ◌^◌, ◌<◌, Bool, true, ◌||◌, List, [], length, replicate, IfSome, Some, None, Option, ◌≢◌, slice_index, slice_set}
+use Rattle.std.specs.Prelude.{◌≡◌, ℕ, ◌^◌, ◌<◌, Bool, true, ◌||◌, List, [], length, replicate, IfSome, None, Option, ◌≢◌, slice_index, slice_set}
 use Rattle.std.specs.Option.{option_map}
 use Rattle.std.specs.List.{AllByRecursion as All}
 use Rattle.tree.specs.declared.block.Block.{Block}

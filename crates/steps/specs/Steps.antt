@@ -1,5 +1,5 @@
 -- The steps of a row of depth D, on its buckets and its queue.
-use Rattle.std.specs.Prelude.{ℕ, zero, suc, ◌+◌, ◌-◌, List, [], ◌∷◌, Some, None, Option, slice_index_or, slice_set}
+use Rattle.std.specs.Prelude.{ℕ, zero, suc, ◌-◌, List, [], ◌∷◌, Some, None, Option, slice_index_or, slice_set}
 use Rattle.tree.specs.declared.block.Block.{Block}
 use Rattle.tree.specs.declared.place.Place.{Place}
 use Rattle.tree.specs.Blocks.{others, block_of, arrived}

@@ -1,8 +1,7 @@
 -- Forty words and four places: both round trips.
-use Rattle.std.proofs.Common.{◌≡◌, ℕ, zero, suc, ◌+◌, ◌-◌, ◌*◌, ◌<◌, ◌≤◌, Bool, true, false, cond, List, [], ◌∷◌, ◌++◌, length, get_or, take, drop, set, sym, refl, ap, ◌∙◌, arith}
+use Rattle.std.proofs.Common.{◌≡◌, ℕ, zero, suc, ◌+◌, ◌-◌, ◌*◌, ◌<◌, ◌≤◌, List, [], ◌∷◌, ◌++◌, length, get_or, take, drop, set, sym, refl, ap, ◌∙◌, arith}
 use borrow.Rule.Slice.PartMut.{put_mid}
-use Rattle.std.proofs.lemmas.List.{append_assoc, append-nil, drop-drop, drop-set-lt, get_or_append_left, get_or-append_right, length-append, length-set, length-take-le, take_all, take_at, take_more, take_more_set}
-use Rattle.tree.specs.declared.bucket.Bucket.{Bucket}
+use Rattle.std.proofs.lemmas.List.{append_assoc, append-nil, drop-drop, drop-set-lt, get_or_append_left, get_or-append_right, length-append, length-set, length-take-le, take_at, take_more, take_more_set}
 use Rattle.tree.specs.declared.place.Place.{Place}
 use Rattle.tree.specs.Places.{place_at, places_of, place_words, words_of, ReadAndLaid, LaidAndRead}
 use Rattle.tree.proofs.PlaceLaws.{same_place}

@@ -1,12 +1,12 @@
 -- Places and blocks with equal words are equal, whatever the proofs of their lengths.
-use Rattle.std.proofs.Common.{◌≡◌, ℕ, zero, suc, ◌+◌, ◌-◌, ◌<◌, ◌≤◌, Bool, true, false, cond, not, ◌&&◌, eqb, List, [], ◌∷◌, ◌++◌, length, get_or, take, drop, set, Some, None, Option, sym, refl, ap, ◌∙◌, arith}
+use Rattle.std.proofs.Common.{◌≡◌, ℕ, ◌+◌, ◌<◌, ◌≤◌, Bool, true, false, cond, ◌&&◌, eqb, List, length, get_or, drop, Some, None, sym, ap, ◌∙◌}
 use mathlib.Core.HLevel.{is_prop→PathP}
 use native.Mathlib.Nat.{ℕ_set}
 use Rattle.std.proofs.lemmas.List.{at_drop_more, at_drop_all}
 use Rattle.std.proofs.lemmas.Bool.{false≢true, eq-eqb, ne_eqb}
 use Rattle.tree.specs.declared.block.Block.{Block}
 use Rattle.tree.specs.declared.place.Place.{Place}
-use Rattle.tree.specs.Places.{place_at, empty_place, is_empty, all_zero, holds, has_block, block_in, place_for, fits_place}
+use Rattle.tree.specs.Places.{all_zero}
 
 pub same_place : (p q : Place) → p.mark ≡ q.mark → p.leaf ≡ q.leaf → p.words ≡ q.words → p ≡ q
 same_place p q m l w =

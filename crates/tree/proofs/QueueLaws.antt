@@ -1,5 +1,5 @@
 -- Laws of lists of blocks: a search for a number, a block that leaves, and one that comes.
-use Rattle.std.proofs.Common.{◌≡◌, ℕ, zero, suc, ◌+◌, ◌-◌, ◌<◌, ◌≤◌, Bool, true, false, cond, not, eqb, ltb, List, [], ◌∷◌, ◌++◌, length, get_or, take, drop, set, Some, None, sym, refl, ap, ◌∙◌, subst, inl, inr, arith}
+use Rattle.std.proofs.Common.{◌≡◌, ℕ, zero, suc, ◌+◌, ◌-◌, ◌<◌, ◌≤◌, Bool, true, false, not, eqb, ltb, List, [], ◌∷◌, ◌++◌, length, get_or, take, drop, set, Some, None, sym, refl, ap, ◌∙◌, subst, inl, inr, arith}
 use Rattle.std.proofs.lemmas.List.{append-nil, append_assoc, length-append, length-take-le, length-drop, take-append-drop, take-append-le, take-take, take_all, take_more, take_more_set, drop_all, drop_more, get_or-take, get_or_default, get_or-append_right, get_or-drop, set_at}
 use Rattle.std.proofs.lemmas.Bool.{both_ways, not-true, not_from_false, not_from_true, and_parts, and_from, and_left, and_right, or_parts, or_from, or_left, or_right, le-ltb, lt-ltb, eqb-true, eqb-false, eq-eqb, cond-true, cond-false, cases_lt}
 use Rattle.tree.specs.declared.block.Block.{Block}

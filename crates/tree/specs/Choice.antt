@@ -1,5 +1,5 @@
 -- Which block a flush moves from a bucket to its child.
-use Rattle.std.specs.Prelude.{◌≡◌, ℕ, zero, suc, ◌+◌, ◌^◌, ◌<◌, ◌≤◌, max, Bool, true, false, cond, ◌&&◌, List, [], ◌∷◌, map, length, is_some, Some, None, Option, MatchOption, ◌==◌, ◌≢◌, nat_eq, nat_le, nat_lt, slice_index_or}
+use Rattle.std.specs.Prelude.{◌≡◌, ℕ, ◌^◌, ◌<◌, ◌≤◌, max, Bool, true, cond, ◌&&◌, List, [], ◌∷◌, map, length, is_some, Some, None, Option, MatchOption, ◌==◌, ◌≢◌, nat_eq, nat_le, nat_lt, slice_index_or}
 use Rattle.tree.specs.declared.place.Place.{Place}
 use Rattle.tree.specs.Paths.{is_leaf, path, shared_buckets}
 use Rattle.tree.specs.Places.{emptied, empty_place, filled, first_from, has_block, lowest_empty}

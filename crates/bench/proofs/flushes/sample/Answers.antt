@@ -1,4 +1,4 @@
-use Rattle.std.proofs.Common.{◌≡◌, ℕ, ◌+◌, ◌-◌, refl, arith}
+use Rattle.std.proofs.Common.{◌≡◌, ◌+◌, ◌-◌, refl, arith}
 use Rattle.tree.proofs.PlaceLaws.{same_block}
 use Rattle.bench.proofs.flushes.sample.Goals as goal
 

@@ -1,5 +1,4 @@
-use Rattle.std.proofs.Common.{◌≡◌, true, is_ok, ap, ◌∙◌}
-use Rattle.std.proofs.lemmas.Bool.{cond-true}
+use Rattle.std.proofs.Common.{◌≡◌, true, is_ok, ap}
 use Rattle.row.proofs.RowLaws.{read_places}
 use Rattle.row.proofs.buckets.read_bucket.Goals as goal
 

@@ -1,4 +1,4 @@
-use Rattle.std.proofs.Common.{◌≡◌, ◌≤◌, length}
+use Rattle.std.proofs.Common.{◌≡◌, length}
 use Rattle.row.specs.Rows.{decoded}
 use Rattle.row.proofs.FetchLaws.{PathFetched}
 use Rattle.row.proofs.fetching.fetch_path.Given as goal

@@ -1,4 +1,4 @@
-use Rattle.std.proofs.Common.{◌≡◌, ℕ, ◌+◌, true, cond, ◌&&◌, get_or, drop, sym, ap, ◌∙◌, arith, rules}
+use Rattle.std.proofs.Common.{◌+◌, ◌&&◌, get_or, drop, sym, ap, ◌∙◌, arith}
 use Rattle.tree.specs.Entries.{moves_of, all_depths}
 use Rattle.tree.specs.Paths.{is_depth}
 use Rattle.tree.proofs.Counts.{total_more, total_end, depths_more, depths_end, given-some, given-none, and_not}

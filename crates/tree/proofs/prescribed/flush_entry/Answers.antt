@@ -1,4 +1,4 @@
-use Rattle.std.proofs.Common.{ℕ, arith}
+use Rattle.std.proofs.Common.{arith}
 use Rattle.tree.proofs.Counts.{flush_long}
 use Rattle.tree.proofs.EntryLaws.{flush_entry, leaf_depth}
 use Rattle.tree.proofs.prescribed.flush_entry.Goals as goal

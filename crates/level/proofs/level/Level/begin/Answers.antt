@@ -1,4 +1,4 @@
-use Rattle.std.proofs.Common.{[], length, refl}
+use Rattle.std.proofs.Common.{[], refl}
 use Rattle.level.proofs.Cleared.{cleared_full, cleared_leaves, cleared_order, cleared_rows, cleared_unfit}
 use Rattle.level.proofs.level.Level.begin.Goals as goal
 

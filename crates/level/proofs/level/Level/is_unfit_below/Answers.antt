@@ -1,4 +1,4 @@
-use Rattle.std.proofs.Common.{◌≡◌, eqb, [], ap, ◌∙◌}
+use Rattle.std.proofs.Common.{eqb, [], ap, ◌∙◌}
 use Rattle.level.proofs.Refusals.{unfit_number}
 use Rattle.level.proofs.level.Level.is_unfit_below.Goals as goal
 

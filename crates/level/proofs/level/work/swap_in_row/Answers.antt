@@ -1,11 +1,9 @@
-use Rattle.std.proofs.Common.{◌≡◌, ◌+◌, ◌*◌, ◌/◌, ◌%◌, ◌^◌, ◌<◌, ◌≤◌, true, length, get_or, is_ok, Some, sym, ap, ◌∙◌, arith, rules}
+use Rattle.std.proofs.Common.{◌≡◌, ◌+◌, ◌*◌, true, length, is_ok, Some, ap, ◌∙◌, arith, rules}
 use Rattle.row.specs.Rows.{decoded_row}
-use Rattle.row.specs.Trials.{is_fit}
 use Rattle.steps.specs.Steps.{arriving, dequeued, fetched, found}
 use Rattle.std.proofs.lemmas.Result.{IfOk-at_ok}
-use Rattle.tree.specs.Blocks.{capacity}
 use Rattle.tree.specs.Queues.{queued}
-use Rattle.level.specs.Levels.{page_with, page_words, words_found}
+use Rattle.level.specs.Levels.{page_with}
 use Rattle.level.proofs.InOrderStill.{fewer}
 use Rattle.level.proofs.RowWork.{arrival_passes, dequeue_long, fetch_long, none_ok, swaps_row, answered, step_passes}
 use Rattle.level.proofs.level.work.swap_in_row.Goals as goal

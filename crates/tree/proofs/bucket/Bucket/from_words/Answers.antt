@@ -1,5 +1,3 @@
-use Rattle.std.proofs.Common.{◌≡◌, List, [], ◌∷◌, rules}
-use Rattle.tree.specs.Places.{places_of}
 use Rattle.tree.proofs.BucketLaws.{read_and_laid}
 use Rattle.tree.proofs.bucket.Bucket.from_words.Goals as goal
 

@@ -1,4 +1,4 @@
-use Rattle.std.proofs.Common.{◌≡◌, ℕ, ◌<◌, ◌≤◌, length, sym, ◌∙◌, arith}
+use Rattle.std.proofs.Common.{◌<◌, ◌≤◌, length, sym, ◌∙◌, arith}
 use Rattle.tree.specs.Places.{holds}
 use Rattle.tree.proofs.Firsts.{first_hit, first_miss, first_end}
 use Rattle.tree.proofs.bucket.Bucket.place_of.Goals as goal

@@ -1,4 +1,4 @@
-use Rattle.std.proofs.Common.{◌≡◌, set, ap, ◌∙◌}
+use Rattle.std.proofs.Common.{set, ap, ◌∙◌}
 use Rattle.tree.specs.Places.{emptied, place_of}
 use Rattle.tree.proofs.Firsts.{keeps_others, taken_at}
 use Rattle.tree.proofs.bucket.Bucket.take_out.Goals as goal

@@ -1,4 +1,4 @@
-use Rattle.std.proofs.Common.{ℕ, ◌<◌, ◌≤◌, length, sym, ◌∙◌, arith}
+use Rattle.std.proofs.Common.{◌<◌, ◌≤◌, length, sym, ◌∙◌, arith}
 use Rattle.tree.proofs.PlaceLaws.{zero_again, zero_not, zero_end, rest_decides}
 use Rattle.tree.proofs.place.Place.is_empty.Goals as goal
 

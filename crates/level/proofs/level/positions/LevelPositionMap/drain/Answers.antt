@@ -1,4 +1,4 @@
-use Rattle.std.proofs.Common.{◌≡◌, ◌-◌, ◌<◌, length, take, drop, sym, refl, ap, ◌∙◌, subst, arith, rules}
+use Rattle.std.proofs.Common.{◌<◌, length, sym, refl, ap, ◌∙◌, subst, arith, rules}
 use Rattle.posmap.specs.Maps.{drain_refusal, leaf_numbers}
 use Rattle.row.specs.Rows.{decoded_row}
 use Rattle.std.proofs.lemmas.Bool.{false≢true}

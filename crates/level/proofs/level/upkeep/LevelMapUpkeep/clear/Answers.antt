@@ -1,4 +1,4 @@
-use Rattle.std.proofs.Common.{length, refl}
+use Rattle.std.proofs.Common.{refl}
 use Rattle.row.specs.Rows.{decoded_row}
 use Rattle.level.proofs.Cleared.{cleared_again, cleared_full, cleared_order, cleared_rows, cleared_unfit}
 use Rattle.level.proofs.level.upkeep.LevelMapUpkeep.clear.Goals as goal

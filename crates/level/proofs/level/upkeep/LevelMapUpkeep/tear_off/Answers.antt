@@ -1,4 +1,4 @@
-use Rattle.std.proofs.Common.{length, refl, ap}
+use Rattle.std.proofs.Common.{refl, ap}
 use Rattle.tree.specs.Queues.{queued}
 use Rattle.level.specs.Levels.{level_full}
 use Rattle.level.proofs.Cleared.{torn_leaves, torn_order, torn_rows, torn_unfit}
