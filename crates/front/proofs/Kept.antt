@@ -1,13 +1,12 @@
 -- What a request keeps and changes of a row in order.
-use Rattle.std.proofs.Common.{◌≡◌, ℕ, ◌^◌, ◌<◌, ◌≤◌, Bool, true, false, cond, eqb, List, [], ◌∷◌, length, get_or, set, IfSome, Some, None, Option, sym, refl, ap, ◌∙◌, subst, inl, inr, arith}
+use Rattle.std.proofs.Common.{◌≡◌, ℕ, ◌^◌, ◌<◌, ◌≤◌, Bool, true, false, cond, eqb, List, [], ◌∷◌, length, get_or, set, IfSome, Some, None, Option, sym, refl, ap, ◌∙◌, inl, inr, arith}
 use Rattle.std.specs.Option.{option_map}
 use Rattle.std.proofs.lemmas.List.{get_or-set_same, length-set, length-take}
 use Rattle.std.proofs.lemmas.Bool.{cases_lt, cond_both, eqb-false}
 use Rattle.tree.specs.declared.block.Block.{Block}
 use Rattle.tree.specs.declared.queue.Queue.{Queue}
-use Rattle.tree.specs.Blocks.{block_of, capacity, numbered, others}
+use Rattle.tree.specs.Blocks.{capacity, numbered, others}
 use Rattle.tree.specs.Queues.{queued}
-use Rattle.steps.specs.Laws.{row_blocks}
 use Rattle.steps.specs.Order.{FirstHalf, InOrder, MayArrive, SecondHalf, content}
 use Rattle.steps.specs.Steps.{Row, fetched, found, second_half}
 use Rattle.steps.proofs.Order.{order_kept}

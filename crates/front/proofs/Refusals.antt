@@ -1,15 +1,15 @@
 -- How the refusals of a row and of the map below it are one refusal of all their rows.
-use Rattle.std.proofs.Common.{◌≡◌, ℕ, zero, suc, ◌+◌, ◌*◌, ◌^◌, ◌<◌, ◌≤◌, min, Bool, true, false, cond, not, ◌&&◌, eqb, ltb, leb, List, [], ◌∷◌, length, get_or, drop, is_some, Some, None, Option, sym, refl, ap, ◌∙◌, inl, inr, arith}
+use Rattle.std.proofs.Common.{◌≡◌, ℕ, suc, ◌+◌, ◌*◌, ◌^◌, ◌<◌, ◌≤◌, min, Bool, true, false, cond, not, ◌&&◌, eqb, ltb, leb, List, [], ◌∷◌, length, get_or, drop, is_some, Some, None, Option, sym, refl, ap, ◌∙◌, inl, inr, arith}
 use Rattle.std.specs.Option.{option_map}
-use Rattle.std.proofs.lemmas.Bool.{and_parts, cases_eq, eq-eqb, eqb-false, eqb-true, le-leb, leb-true, lt-ltb, ltb-true}
+use Rattle.std.proofs.lemmas.Bool.{and_parts, cases_eq, eq-eqb, eqb-false, le-leb, lt-ltb, ltb-true}
 use Rattle.std.proofs.lemmas.Nat.{pow_below}
 use Rattle.std.proofs.lemmas.List.{length-drop}
 use Rattle.tree.specs.declared.block.Block.{Block}
 use Rattle.tree.specs.Blocks.{capacity}
 use Rattle.tree.specs.Entries.{drain_moves, request_moves}
 use Rattle.tree.specs.Paths.{is_depth}
-use Rattle.posmap.specs.Maps.{Card, MapRow, coins_below, coins_per_drain, coins_per_request, drain_refusal, leaf_refusal, log_refusal, naming, or_else, stopped, swap_refusal, unless, widest_leaf}
-use Rattle.front.specs.Fronts.{coins_fit, deeper, drain_from, first_card, front_full, front_rows, front_unfit, own, own_drain, own_request, raised, request_from}
+use Rattle.posmap.specs.Maps.{Card, MapRow, coins_below, coins_per_drain, coins_per_request, drain_refusal, leaf_refusal, log_refusal, naming, or_else, stopped, unless, widest_leaf}
+use Rattle.front.specs.Fronts.{deeper, drain_from, first_card, front_full, front_rows, front_unfit, own, raised, request_from}
 
 -- the lowest row with a coin of its share not below 2 ^ D, and the lowest whose log is too full
 abbrev missing : ℕ → Bool → Option ℕ → Option ℕ

@@ -1,5 +1,5 @@
 -- Once its trial has passed no step of the second half is refused.
-use Rattle.std.proofs.Common.{◌≡◌, ℕ, ◌+◌, ◌*◌, ◌^◌, ◌<◌, ◌≤◌, Bool, true, false, cond, ◌&&◌, leb, List, [], ◌∷◌, ◌++◌, length, is_ok, Some, None, Ok, Err, Option, Result, sym, refl, ap, ◌∙◌, arith}
+use Rattle.std.proofs.Common.{◌≡◌, ℕ, ◌+◌, ◌*◌, ◌^◌, ◌<◌, ◌≤◌, Bool, true, false, ◌&&◌, leb, List, [], ◌∷◌, ◌++◌, length, is_ok, Some, None, Ok, Err, Option, Result, sym, refl, ap, ◌∙◌, arith}
 use Rattle.std.specs.Result.{result_err}
 use Rattle.std.proofs.lemmas.List.{append_assoc, append-nil, length-append}
 use Rattle.std.proofs.lemmas.Bool.{and_from, and_parts, cond-true, le-leb, leb-true, lt-ltb}
@@ -9,8 +9,6 @@ use Rattle.tree.specs.Blocks.{capacity}
 use Rattle.tree.specs.Entries.{dequeue_entries, dequeues_entries, fetch_entries, request_entries}
 use Rattle.tree.specs.Paths.{is_depth, is_leaf}
 use Rattle.tree.proofs.Counts.{entry_counts}
-use Rattle.row.specs.declared.fault.RowFault.{RowFault}
-use Rattle.row.specs.declared.fault.RowFault.TheVariants.{Unfit, NoLeaf, LogFull, QueueFull}
 use Rattle.row.specs.Trials.{first_fault, has_room, is_fit, refusal_by, tree_buckets}
 use Rattle.row.proofs.RowLaws.{passes}
 use Rattle.front.specs.Fronts.{arrival_fits, second_moves, second_refusal, waiting_for}

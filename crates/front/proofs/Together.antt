@@ -1,12 +1,12 @@
 -- What a trial of row and map answers, from what it asked of each.
-use Rattle.std.proofs.Common.{◌≡◌, ℕ, suc, ◌+◌, ◌-◌, ◌*◌, ◌<◌, ◌≤◌, Bool, true, false, cond, not, ◌&&◌, eqb, leb, List, [], ◌∷◌, length, get_or, take, drop, Some, None, Option, sym, refl, ap, ◌∙◌, add-one, arith}
+use Rattle.std.proofs.Common.{◌≡◌, ℕ, suc, ◌+◌, ◌-◌, ◌*◌, ◌<◌, ◌≤◌, cond, not, ◌&&◌, eqb, leb, List, [], ◌∷◌, length, get_or, take, drop, Some, None, Option, sym, refl, ap, ◌∙◌, add-one}
 use Rattle.std.proofs.lemmas.Bool.{cond-false, cond-true, eq-eqb, le-leb, lt-leb, ne_eqb}
 use Rattle.tree.specs.declared.numbers.Leaf.{Leaf}
 use Rattle.tree.specs.Blocks.{capacity}
 use Rattle.tree.specs.Entries.{drain_moves, request_moves}
 use Rattle.tree.specs.Paths.{is_depth}
-use Rattle.posmap.specs.Maps.{Card, MapRow, coins_below, drain_refusal, leaf_numbers, or_else, swap_refusal, unless}
-use Rattle.front.specs.Fronts.{coins_fit, drain_from, first_card, own, own_drain, own_request, request_from}
+use Rattle.posmap.specs.Maps.{Card, MapRow, drain_refusal, leaf_numbers, or_else, swap_refusal, unless}
+use Rattle.front.specs.Fronts.{drain_from, first_card, own, own_drain, own_request, request_from}
 use Rattle.front.proofs.Coins.{at, left, length_numbers, numbers_at, one_below, three_below}
 
 pub few_coins : (share : ℕ) (xs : List Leaf) (o : Option Card) → length xs < share

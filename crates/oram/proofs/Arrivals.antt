@@ -1,9 +1,9 @@
 -- What arrives in row 0.
-use Rattle.std.proofs.Common.{◌≡◌, ℕ, ◌^◌, ◌<◌, true, ltb, leb, List, IfSome, Some, None, Option, sym, refl, ap, subst}
+use Rattle.std.proofs.Common.{◌≡◌, ℕ, ◌^◌, ◌<◌, true, ltb, leb, List, IfSome, Some, None, Option, refl, ap}
 use Rattle.std.specs.Option.{option_map}
 use Rattle.std.proofs.lemmas.Bool.{and_from, and_parts, lt-ltb}
 use Rattle.tree.specs.declared.block.Block.{Block}
-use Rattle.tree.specs.Paths.{is_depth, is_leaf}
+use Rattle.tree.specs.Paths.{is_depth}
 use Rattle.row.specs.Trials.{is_fit, tree_buckets}
 use Rattle.front.specs.Fronts.{arrival_fits}
 use Rattle.oram.specs.Calls.{ArrivesAs}

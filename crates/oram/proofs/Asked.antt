@@ -1,16 +1,16 @@
 -- What a request does to an Oram in order, from what the map and row 0 did.
-use Rattle.std.proofs.Common.{◌≡◌, ℕ, suc, ◌+◌, ◌%◌, ◌^◌, ◌<◌, ◌≤◌, Bool, true, false, leb, List, [], ◌∷◌, ◌++◌, length, get_or, drop, set, Some, None, Option, sym, refl, ap, ◌∙◌, subst, mod-eq_of_lt, arith}
+use Rattle.std.proofs.Common.{◌≡◌, ℕ, ◌+◌, ◌%◌, ◌^◌, ◌<◌, ◌≤◌, true, leb, List, [], ◌∷◌, ◌++◌, length, get_or, drop, set, None, Option, ap, ◌∙◌, subst, mod-eq_of_lt}
 use Rattle.std.specs.Option.{option_or}
 use Rattle.std.proofs.ByRecursion.{All-get_or}
 use Rattle.std.proofs.lemmas.Bool.{cond-true, leb-true}
 use Rattle.tree.specs.declared.block.Block.{Block}
 use Rattle.tree.specs.declared.numbers.Leaf.{Leaf}
 use Rattle.tree.specs.Blocks.{capacity}
-use Rattle.tree.specs.Entries.{drain_entries, request_entries, request_moves}
+use Rattle.tree.specs.Entries.{drain_entries, request_entries}
 use Rattle.tree.specs.Paths.{is_depth}
 use Rattle.steps.specs.Order.{InOrder, content}
 use Rattle.steps.specs.Steps.{Row, fetched, found, second_half}
-use Rattle.posmap.specs.Maps.{Card, DrainDone, MapRow, SwapDone, leaf_numbers, log_refusal, row_swapped, rows_drained, rows_swapped, stopped, unless}
+use Rattle.posmap.specs.Maps.{DrainDone, MapRow, SwapDone, leaf_numbers, log_refusal, rows_drained, unless}
 use Rattle.front.specs.Fronts.{front_rows, in_range}
 use Rattle.front.proofs.Coins.{at, numbers_at}
 use Rattle.front.proofs.Kept.{kept_found, kept_order}

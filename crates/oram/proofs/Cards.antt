@@ -5,7 +5,7 @@ use Rattle.posmap.specs.declared.fault.LevelFault.{LevelFault}
 use Rattle.posmap.specs.Faults.{level_number, level_row}
 use Rattle.posmap.specs.Maps.{Card}
 use Rattle.oram.specs.declared.fault.OramFault.{OramFault}
-use Rattle.oram.specs.Faults.{SameCard, oram_number, oram_row}
+use Rattle.oram.specs.Faults.{SameCard, oram_row}
 use Rattle.oram.specs.Requests.{oram_card}
 
 -- the place of a fault of a row in front of a map

@@ -1,6 +1,6 @@
 -- What a call does, from how it ends.
-use Rattle.std.proofs.Common.{◌≡◌, ℕ, suc, ◌+◌, ◌<◌, Bool, true, false, List, length, Some, None, Ok, Err, Option, sym, refl, ap, ◌∙◌, subst, add-one, arith}
-use Rattle.std.specs.Option.{option_map, option_or}
+use Rattle.std.proofs.Common.{◌≡◌, ℕ, suc, ◌+◌, ◌<◌, List, Some, None, Ok, Err, Option, sym, refl, ap, ◌∙◌, subst, add-one, arith}
+use Rattle.std.specs.Option.{option_map}
 use Rattle.std.proofs.lemmas.Bool.{false≢true, lt-ltb}
 use Rattle.record.specs.declared.kind.RecordKind.{Ghosts as KindMeaning}
 use Rattle.store.specs.declared.interface.BucketStore.{Ghosts as StoreMeaning}
@@ -11,8 +11,8 @@ use Rattle.front.specs.Fronts.{own}
 use Rattle.history.specs.Histories.{Call, opening, getting, putting, draining, tearing}
 use Rattle.oram.specs.declared.fault.OramFault.{OramFault}
 use Rattle.oram.specs.declared.oram.Oram.{Oram}
-use Rattle.oram.specs.Calls.{Does, Drained, Frame, Outcome, refused, did, Requested, TornOff, ask_time, card_in, open_time, refusal_of, request_refusal}
-use Rattle.oram.specs.Orams.{Ordered, held, records_of, row_of, unfit_of}
+use Rattle.oram.specs.Calls.{Does, Drained, Frame, refused, did, Requested, TornOff, ask_time, card_in, open_time, refusal_of, request_refusal}
+use Rattle.oram.specs.Orams.{Ordered, records_of, unfit_of}
 use Rattle.oram.specs.Requests.{Asks}
 
 -- a fit Oram with a record left to open

@@ -1,11 +1,11 @@
 -- The rows follow the history: what a request, a drain and a tear-off do to every row is what the history prescribes.
-use Rattle.std.proofs.Common.{◌≡◌, ℕ, zero, suc, ◌+◌, ◌*◌, ◌/◌, ◌<◌, ◌≤◌, Bool, true, false, cond, eqb, List, [], ◌∷◌, ◌++◌, length, get_or, drop, set, replicate, sym, refl, ap, ◌∙◌, subst, inl, inr, arith}
+use Rattle.std.proofs.Common.{◌≡◌, ℕ, zero, suc, ◌+◌, ◌*◌, ◌/◌, ◌<◌, List, [], ◌∷◌, ◌++◌, length, get_or, drop, set, replicate, sym, refl, ap, ◌∙◌, subst, inl, inr, arith}
 use Rattle.std.proofs.lemmas.List.{drop-drop, get_or-drop, get_or-set_other, get_or-set_same, length-set}
 use Rattle.std.proofs.lemmas.Bool.{cases_eq, cond-false, cond-true, eq-eqb, ne_eqb}
 use Rattle.tree.specs.Entries.{drain_entries, request_entries}
 use Rattle.posmap.specs.Maps.{MapRow, OwnLeaves, divided, row_at, row_swapped, rows_drained, rows_swapped, rows_torn, rows_zeroed}
 use Rattle.front.proofs.Zeroed.{torn_long, zeroed_long}
-use Rattle.history.specs.Histories.{Deed, rest, request, drain, tear_off, drain_leaf, flush_leaves, log_of, new_leaf, row_number, shown_in}
+use Rattle.history.specs.Histories.{Deed, rest, request, drain, tear_off, log_of, row_number, shown_in}
 use Rattle.oram.specs.Calls.{rows_requested}
 
 -- a row's log is the prescribed one, and each of its leaves the shown one, after these deeds under these coins

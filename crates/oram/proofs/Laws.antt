@@ -1,5 +1,5 @@
 -- The laws of a call from what it does.
-use Rattle.std.proofs.Common.{◌≡◌, ℕ, suc, ◌+◌, ◌/◌, ◌<◌, ◌≤◌, Bool, true, false, List, [], ◌∷◌, ◌++◌, map, length, get_or, drop, Some, None, Option, sym, refl, ap, ◌∙◌, subst, arith}
+use Rattle.std.proofs.Common.{◌≡◌, ℕ, ◌+◌, ◌/◌, true, List, [], ◌∷◌, map, get_or, drop, None, Option, sym, refl, ap, ◌∙◌, arith}
 use Rattle.std.proofs.lemmas.List.{length-append}
 use Rattle.std.proofs.lemmas.Bool.{false≢true}
 use Rattle.tree.specs.Entries.{drain_entries, drain_moves, request_entries, request_moves, total}
@@ -8,11 +8,11 @@ use Rattle.record.specs.declared.kind.RecordKind.{Ghosts as KindMeaning}
 use Rattle.store.specs.declared.interface.BucketStore.{Ghosts as StoreMeaning}
 use Rattle.posmap.specs.declared.interface.PositionMap.{Ghosts as MapMeaning}
 use Rattle.posmap.specs.Maps.{MapRow, rows_drained, rows_swapped, rows_torn}
-use Rattle.history.specs.Histories.{Call, opening, getting, putting, draining, tearing, History, Sort, opens, asks, drains, tears, plain_array, sort}
+use Rattle.history.specs.Histories.{Call, opening, getting, putting, draining, tearing, History, plain_array, sort}
 use Rattle.oram.specs.declared.oram.Oram.{Oram}
-use Rattle.oram.specs.Calls.{Does, Done, Outcome, refused, did, answer_of, is_done, refusal_of, requested_by, rows_requested}
-use Rattle.oram.specs.Orams.{Ordered, depths_of, held, records_of, rows_of}
-use Rattle.oram.specs.Worked.{Lawful, Worked, moves_after, moves_by, moves_in}
+use Rattle.oram.specs.Calls.{Does, Done, Outcome, refused, did, answer_of, is_done, requested_by, rows_requested}
+use Rattle.oram.specs.Orams.{depths_of, records_of, rows_of}
+use Rattle.oram.specs.Worked.{Lawful, Worked, moves_after, moves_in}
 use Rattle.oram.proofs.Accepts.{accepted, never_eight, none_done, small_room}
 use Rattle.oram.proofs.Works.{does_works, in_time}
 

@@ -1,5 +1,5 @@
 -- Every run follows its history.
-use Rattle.std.proofs.Common.{◌≡◌, ℕ, zero, suc, ◌<◌, List, [], ◌∷◌, length, get_or, replicate, None, Option, sym, refl, ap, ◌∙◌, subst}
+use Rattle.std.proofs.Common.{◌≡◌, ℕ, zero, suc, List, [], ◌∷◌, length, get_or, replicate, None, Option, sym, refl, ap, ◌∙◌, subst}
 use Rattle.std.specs.Option.{option_map}
 use Rattle.steps.specs.Order.{content}
 use Rattle.steps.proofs.Order.{order_kept}
@@ -10,7 +10,7 @@ use Rattle.posmap.specs.Maps.{MapRow}
 use Rattle.front.proofs.Zeroed.{zero_row}
 use Rattle.oram.specs.declared.oram.Oram.{Oram}
 use Rattle.oram.specs.Orams.{Begun, records_of, rows_of}
-use Rattle.oram.specs.Runs.{AfterEach, Run, begins, goes_on, RunsAreWorked, Step, history_of}
+use Rattle.oram.specs.Runs.{Run, begins, goes_on, RunsAreWorked, Step, history_of}
 use Rattle.oram.specs.Worked.{Worked}
 use Rattle.oram.proofs.Follow.{AllFollow, begun_follows}
 use Rattle.oram.proofs.Works.{does_works}

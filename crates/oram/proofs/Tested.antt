@@ -1,5 +1,5 @@
 -- What a request of an Oram has, once its tests have passed.
-use Rattle.std.proofs.Common.{◌≡◌, ℕ, ◌+◌, ◌^◌, ◌<◌, ◌≤◌, true, eqb, List, length, get_or, drop, Some, None, Option, sym, arith}
+use Rattle.std.proofs.Common.{◌≡◌, ℕ, ◌+◌, ◌^◌, ◌<◌, ◌≤◌, true, eqb, List, length, get_or, drop, None, sym, arith}
 use Rattle.std.proofs.lemmas.List.{length-map}
 use Rattle.tree.specs.Blocks.{capacity}
 use Rattle.tree.specs.Entries.{drain_moves, request_moves}

@@ -1,13 +1,11 @@
 -- The run law from what a call does.
-use Rattle.std.proofs.Common.{◌≡◌, ℕ, zero, suc, ◌+◌, ◌*◌, ◌^◌, ◌<◌, ◌≤◌, Bool, true, false, cond, eqb, ltb, List, [], ◌∷◌, map, length, get_or, drop, set, replicate, Some, None, Option, sym, refl, ap, ◌∙◌, subst, inl, inr, arith, MatchOption}
+use Rattle.std.proofs.Common.{◌≡◌, ℕ, suc, ◌^◌, ◌<◌, Bool, true, false, cond, eqb, ltb, List, [], ◌∷◌, map, length, get_or, set, Some, None, Option, sym, refl, ap, ◌∙◌, subst, inl, inr, arith}
 use Rattle.std.specs.Option.{option_map}
 use Rattle.std.proofs.lemmas.List.{get_or-set_other, get_or-set_same, length-replicate, length-set}
 use Rattle.std.proofs.lemmas.Bool.{cases_eq, eqb-true, false≢true, ltb-true}
-use Rattle.tree.specs.declared.block.Block.{Block}
-use Rattle.tree.specs.declared.queue.Queue.{Queue}
 use Rattle.tree.specs.Blocks.{capacity}
 use Rattle.tree.specs.Queues.{queued}
-use Rattle.steps.specs.Order.{InOrder, content}
+use Rattle.steps.specs.Order.{content}
 use Rattle.steps.proofs.Order.{order_kept}
 use Rattle.record.specs.declared.kind.RecordKind.{Ghosts as KindMeaning}
 use Rattle.store.specs.declared.interface.BucketStore.{Ghosts as StoreMeaning}
@@ -15,14 +13,14 @@ use Rattle.posmap.specs.declared.interface.PositionMap.{Ghosts as MapMeaning}
 use Rattle.posmap.specs.Maps.{Card, MapRow, OwnLeaves, fixed_of, naming, or_else, unless}
 use Rattle.row.specs.Rows.{decoded_row}
 use Rattle.front.proofs.Kept.{room_left, kept_holds, kept_others, none_full, none_unfit}
-use Rattle.history.specs.Histories.{AllCan, Call, opening, getting, putting, draining, tearing, History, Leaves, coins_of, deeds, CanAccept, Turn, drain, opened, plain_array, request, tear_off, written}
+use Rattle.history.specs.Histories.{AllCan, Call, opening, getting, putting, draining, tearing, History, coins_of, deeds, CanAccept, Turn, drain, opened, plain_array, request, tear_off, written}
 use Rattle.oram.specs.declared.oram.Oram.{Oram}
-use Rattle.oram.specs.Calls.{ArrivesAs, Does, Done, Drained, Frame, Outcome, refused, did, Requested, TornOff, answer_of, ask_time, request_refusal, is_done, refusal_of, requested_by, words_after}
-use Rattle.oram.specs.Orams.{Begun, Ordered, depths_of, held, records_of, row_of, rows_of, unfit_of, full_of}
-use Rattle.oram.specs.Worked.{Lawful, Worked, turn_of}
+use Rattle.oram.specs.Calls.{Does, Done, Frame, Outcome, refused, did, Requested, ask_time, request_refusal, refusal_of}
+use Rattle.oram.specs.Orams.{Ordered, depths_of, held, records_of, row_of, rows_of, unfit_of, full_of}
+use Rattle.oram.specs.Worked.{Worked, turn_of}
 use Rattle.oram.proofs.Arrivals.{arrives_named, arrives_words}
-use Rattle.oram.proofs.Follow.{AllFollow, begun_follows, drain_follows, request_follows, rest_follows, tear_follows}
-use Rattle.oram.proofs.Passed.{SwapPassed, both_none, coins_right, drain_passed, none_named, swap_passed, test_passed}
+use Rattle.oram.proofs.Follow.{AllFollow, drain_follows, request_follows, tear_follows}
+use Rattle.oram.proofs.Passed.{SwapPassed, both_none, drain_passed, swap_passed, test_passed}
 
 -- the plain array keeps its length
 written_long : {R : Type 0} (c : Call R) (xs : List (Option R)) → length (written c xs) ≡ length xs

@@ -1,5 +1,5 @@
 -- What each call of an Oram does: one relation between the Oram before and the Oram after.
-use Rattle.std.specs.Prelude.{◌≡◌, ℕ, suc, Bool, true, false, List, [], ◌∷◌, length, drop, Some, None, Ok, Err, Option, Result, ◌==◌, nat_lt, slice_index}
+use Rattle.std.specs.Prelude.{◌≡◌, ℕ, Bool, true, false, List, [], ◌∷◌, length, drop, Some, None, Ok, Err, Option, Result, ◌==◌, nat_lt, slice_index}
 use Rattle.tree.specs.declared.block.Block.{Block}
 use Rattle.steps.specs.Order.{content}
 use Rattle.steps.specs.Steps.{dequeued, fetched, second_half}

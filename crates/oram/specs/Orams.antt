@@ -1,5 +1,5 @@
 -- What an Oram means, from what its record kind, its store and the map below it mean. Row 0 is its own; the map's rows follow.
-use Rattle.std.specs.Prelude.{◌≡◌, ℕ, Bool, List, [], map, length, None, Option}
+use Rattle.std.specs.Prelude.{◌≡◌, ℕ, List, [], map, length, None, Option}
 use Rattle.std.specs.Option.{option_map}
 use Rattle.tree.specs.Queues.{queued}
 use Rattle.steps.specs.Order.{InOrder, content}

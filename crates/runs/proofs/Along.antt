@@ -1,13 +1,13 @@
 -- What holds all along a run.
-use Rattle.std.proofs.Common.{◌≡◌, ℕ, zero, suc, ◌<◌, Bool, true, false, List, [], ◌∷◌, map, length, get_or, drop, Option, sym, refl, ap, ◌∙◌, subst, arith}
+use Rattle.std.proofs.Common.{◌≡◌, ℕ, suc, ◌<◌, Bool, List, [], ◌∷◌, map, length, get_or, drop, Option, sym, refl, ap, ◌∙◌, subst, arith}
 use Rattle.std.proofs.lemmas.List.{get_or-map, length-map}
 use Rattle.record.specs.declared.kind.RecordKind.{Ghosts as KindMeaning}
 use Rattle.store.specs.declared.interface.BucketStore.{Ghosts as StoreMeaning}
 use Rattle.posmap.specs.declared.interface.PositionMap.{Ghosts as MapMeaning}
-use Rattle.posmap.specs.Maps.{MapRow, fixed_of, no_row, row_at}
-use Rattle.history.specs.Histories.{AllCan, History, Turn, accepted_in, calls_of, coins_of, prescribed_log}
+use Rattle.posmap.specs.Maps.{MapRow, no_row, row_at}
+use Rattle.history.specs.Histories.{AllCan, History, Turn, accepted_in, prescribed_log}
 use Rattle.oram.specs.declared.oram.Oram.{Oram}
-use Rattle.oram.specs.Orams.{depths_of, records_of, rows_of, unfit_of}
+use Rattle.oram.specs.Orams.{records_of, rows_of}
 use Rattle.oram.specs.Runs.{AfterEach, Run, begins, goes_on, Step, history_of}
 use Rattle.oram.specs.Worked.{Worked}
 use Rattle.oram.proofs.Runs.{latest_works, runs_are_worked}

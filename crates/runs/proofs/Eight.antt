@@ -1,5 +1,5 @@
 -- Two matched runs: the first turn that one accepts and the other refuses is refused by 8.
-use Rattle.std.proofs.Common.{◌≡◌, ℕ, zero, suc, ◌+◌, ◌<◌, ◌≤◌, Bool, true, false, List, [], ◌∷◌, map, length, get_or, drop, IfSome, Some, None, Option, sym, refl, ap, ◌∙◌, subst, arith}
+use Rattle.std.proofs.Common.{◌≡◌, ℕ, zero, suc, ◌<◌, true, false, List, [], ◌∷◌, map, length, drop, IfSome, Some, None, Option, sym, refl, ap, ◌∙◌, subst, arith}
 use Rattle.std.proofs.lemmas.List.{length-map}
 use Rattle.std.specs.List.{AllByRecursion as All}
 use Rattle.tree.specs.Blocks.{capacity}
@@ -7,21 +7,21 @@ use Rattle.record.specs.declared.kind.RecordKind.{Ghosts as KindMeaning}
 use Rattle.store.specs.declared.interface.BucketStore.{Ghosts as StoreMeaning}
 use Rattle.posmap.specs.declared.interface.PositionMap.{Ghosts as MapMeaning}
 use Rattle.posmap.specs.Maps.{Card, MapRow, fixed_of, row_at}
-use Rattle.history.specs.Histories.{AllCan, Call, opening, getting, putting, draining, tearing, History, InTime, RightCoins, Sort, opens, asks, drains, tears, Turn, accepted_in, calls_of, coins_of, deeds, moves_since, named, opened, sort}
+use Rattle.history.specs.Histories.{Call, opening, getting, putting, draining, tearing, History, InTime, RightCoins, Sort, opens, asks, drains, tears, accepted_in, calls_of, deeds, moves_since, named, sort}
 use Rattle.history.specs.Secrecy as history
 use Rattle.history.specs.Secrecy.{Alike}
 use Rattle.history.proofs.Logs.{counted}
 use Rattle.oram.specs.declared.oram.Oram.{Oram}
 use Rattle.oram.specs.Calls.{Does, Outcome, refused, did, is_done, refusal_in, refusal_of}
-use Rattle.oram.specs.Orams.{depths_of, full_of, records_of, rows_of, unfit_of}
+use Rattle.oram.specs.Orams.{depths_of, full_of, records_of, rows_of}
 use Rattle.oram.specs.Runs.{Run, begins, goes_on, Step, history_of}
 use Rattle.oram.specs.Worked.{Small, Worked, moves_by, turn_of}
 use Rattle.oram.proofs.Accepts.{never_eight, small_room}
 use Rattle.oram.proofs.Runs.{latest_works}
-use Rattle.oram.proofs.Works.{depths_fixed, same_depths}
+use Rattle.oram.proofs.Works.{depths_fixed}
 use Rattle.runs.specs.Pairs.{Began, ByEight, NamesBelow, Region, Shaped, SmallRows, counted_by}
-use Rattle.runs.specs.Secrecy.{DifferByEightOnly, Matched, Relabelled, SmallNeverDiffers}
-use Rattle.runs.proofs.Along.{counted_same, run_can, shaped_kept}
+use Rattle.runs.specs.Secrecy.{DifferByEightOnly, Matched, SmallNeverDiffers}
+use Rattle.runs.proofs.Along.{run_can, shaped_kept}
 use Rattle.runs.proofs.Equal.{equal}
 use Rattle.runs.proofs.Ready.{Ready, accepted_ready, ready_eight}
 use Rattle.runs.proofs.Turns.{accepted_right, drop-map, drop_more, opened_alike, refused_same}

@@ -1,5 +1,5 @@
 -- Equal logs, the meaning of relabelled coins, moves only, one-to-one and onto: from histories to runs.
-use Rattle.std.proofs.Common.{◌≡◌, ℕ, List, sym, refl, ap, ◌∙◌, subst}
+use Rattle.std.proofs.Common.{◌≡◌, ℕ, List, ap, ◌∙◌}
 use Rattle.record.specs.declared.kind.RecordKind.{Ghosts as KindMeaning}
 use Rattle.store.specs.declared.interface.BucketStore.{Ghosts as StoreMeaning}
 use Rattle.posmap.specs.declared.interface.PositionMap.{Ghosts as MapMeaning}
@@ -11,7 +11,6 @@ use Rattle.history.proofs.Moves.{leaves_only_move}
 use Rattle.history.proofs.Showings.{relabelled_by_next_showing}
 use Rattle.oram.specs.declared.oram.Oram.{Oram}
 use Rattle.oram.specs.Runs.{Step, history_of}
-use Rattle.runs.specs.Pairs.{counted_by}
 use Rattle.runs.specs.Secrecy.{Beside, CoinsAreRelabelled, LeavesOnlyMove, LogsAreEqual, RelabellingIsOneToOne}
 use Rattle.runs.proofs.Along.{all_same_logs, counted_same, run_can}
 

@@ -1,17 +1,17 @@
 -- A call against which nothing stands but, perhaps, a full queue.
-use Rattle.std.proofs.Common.{◌≡◌, ℕ, zero, suc, ◌+◌, ◌<◌, ◌≤◌, Bool, true, false, eqb, ltb, leb, List, [], ◌∷◌, map, length, get_or, IfSome, Some, None, Option, sym, refl, ap, ◌∙◌, subst, arith}
-use Rattle.std.proofs.lemmas.Bool.{eq-eqb, eqb-true, leb-true, lt-ltb, ltb-true}
+use Rattle.std.proofs.Common.{◌≡◌, ℕ, zero, suc, ◌+◌, ◌<◌, ◌≤◌, eqb, ltb, leb, List, [], ◌∷◌, length, IfSome, Some, None, Option, refl, ap, ◌∙◌, arith}
+use Rattle.std.proofs.lemmas.Bool.{eq-eqb, eqb-true, leb-true, lt-ltb}
 use Rattle.tree.specs.Entries.{drain_moves, request_moves}
 use Rattle.store.specs.declared.interface.BucketStore.{Ghosts as StoreMeaning}
 use Rattle.posmap.specs.declared.interface.PositionMap.{Ghosts as MapMeaning}
-use Rattle.posmap.specs.Maps.{Card, MapRow, leaf_refusal, log_refusal, naming, or_else, row_at, swap_refusal, unless}
-use Rattle.history.specs.Histories.{Call, opening, getting, putting, draining, tearing, InTime, RightCoins, Sort, opens, asks, drains, tears, named, sort}
+use Rattle.posmap.specs.Maps.{Card, MapRow, log_refusal, naming, or_else, row_at, unless}
+use Rattle.history.specs.Histories.{Call, opening, getting, putting, draining, tearing, InTime, RightCoins, Sort, asks, tears, named, sort}
 use Rattle.oram.specs.declared.oram.Oram.{Oram}
-use Rattle.oram.specs.Calls.{ask_time, open_time, refusal_of, request_refusal}
+use Rattle.oram.specs.Calls.{ask_time, open_time, refusal_of}
 use Rattle.oram.specs.Orams.{depths_of, full_of, records_of, rows_of, unfit_of}
 use Rattle.oram.specs.Worked.{moves_by}
 use Rattle.oram.proofs.Accepts.{drain_passes, swap_full}
-use Rattle.oram.proofs.Passed.{both_none, drain_passed, none_named, swap_passed, test_passed}
+use Rattle.oram.proofs.Passed.{both_none, drain_passed, swap_passed, test_passed}
 
 -- every log has the entries free
 logs_free : (moves : ℕ → ℕ) (q : ℕ) (rows : List MapRow) → log_refusal moves q rows ≡ None → (r : ℕ) → r < length rows

@@ -1,8 +1,7 @@
 -- What stands at one turn of a list, latest first: drop j leaves that turn and those before it.
-use Rattle.std.proofs.Common.{◌≡◌, ℕ, zero, suc, ◌+◌, ◌*◌, ◌^◌, ◌<◌, ◌≤◌, Bool, true, false, cond, ltb, List, [], ◌∷◌, map, length, get_or, drop, Some, None, Option, sym, refl, ap, ◌∙◌, subst, arith}
-use Rattle.std.specs.List.{AllByRecursion as All}
-use Rattle.std.proofs.lemmas.Bool.{cond-false, cond-true, false≢true}
-use Rattle.history.specs.Histories.{AllCan, Call, Deed, rest, request, drain, tear_off, History, Leaves, RightCoins, Sort, opens, asks, drains, tears, Turn, accepted_in, accepting, calls_of, coins_of, deed, deed_of, deeds, leaves_in, named, numbers_in, opened, opened_by, requested, sort}
+use Rattle.std.proofs.Common.{◌≡◌, ℕ, zero, suc, Bool, true, false, cond, List, [], ◌∷◌, map, drop, Some, None, Option, sym, refl, ap, ◌∙◌, subst, arith}
+use Rattle.std.proofs.lemmas.Bool.{cond-false, cond-true}
+use Rattle.history.specs.Histories.{AllCan, Deed, History, RightCoins, Sort, opens, asks, drains, tears, Turn, accepted_in, accepting, calls_of, coins_of, deed, deed_of, deeds, leaves_in, named, numbers_in, opened, opened_by, requested, sort}
 use Rattle.history.specs.Secrecy.{Alike, EachTurn, InRange, RangeOf, SideBySide, all_below, requested_in, relabelled_for, replaced, row_given}
 use Rattle.history.proofs.Keeps.{relabelling_is_one_to_one}
 use Rattle.runs.specs.Pairs.{counted_by}

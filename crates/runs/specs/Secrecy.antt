@@ -1,6 +1,6 @@
 -- Secrecy: two lists of calls that differ only in records named, records put and get against put leave equal logs under relabelled
 -- coins. Statements about every run of an Oram of one kind of record, one store and one map.
-use Rattle.std.specs.Prelude.{◌≡◌, ℕ, ◌<◌, List, [], ◌∷◌, length, drop, Option, ◌≢◌}
+use Rattle.std.specs.Prelude.{◌≡◌, ℕ, ◌<◌, List, ◌∷◌, length, drop, Option, ◌≢◌}
 use Rattle.std.specs.List.{AllByRecursion as All}
 use Rattle.record.specs.declared.kind.RecordKind.{Ghosts as KindMeaning}
 use Rattle.store.specs.declared.interface.BucketStore.{Ghosts as StoreMeaning}

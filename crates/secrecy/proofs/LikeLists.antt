@@ -1,6 +1,5 @@
 -- Lists of calls, turn by turn.
-use Rattle.std.proofs.Common.{◌≡◌, ℕ, zero, suc, ◌<◌, List, [], ◌∷◌, map, length, get_or, sym, refl, ap, ◌∙◌, arith}
-use Rattle.std.proofs.lemmas.List.{length-map}
+use Rattle.std.proofs.Common.{◌≡◌, ℕ, zero, suc, ◌<◌, List, [], ◌∷◌, map, length, get_or, refl, ap, ◌∙◌, arith}
 use Rattle.history.specs.Histories.{sort}
 use Rattle.secrecy.specs.declared.calls.Call.{Call}
 use Rattle.secrecy.specs.Lists.{LikeCalls, call_in, calls_in}

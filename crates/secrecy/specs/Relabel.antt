@@ -1,9 +1,9 @@
 -- The relabelled coins by turns counted from 0, oldest first, as they are computed: the next showing of a leaf is looked for.
-use Rattle.std.specs.Prelude.{◌≡◌, ℕ, zero, suc, ◌-◌, Bool, true, false, cond, List, [], ◌∷◌, ◌++◌, map, reverse, length, is_some, Some, None, Option, ◌==◌, slice_index_or}
+use Rattle.std.specs.Prelude.{◌≡◌, ℕ, zero, suc, ◌-◌, Bool, false, cond, List, [], ◌∷◌, ◌++◌, map, reverse, length, is_some, Some, None, Option, ◌==◌, slice_index_or}
 use Rattle.std.specs.Option.{option_map}
 use Rattle.tree.specs.declared.numbers.RecordNumber.{RecordNumber}
 use Rattle.history.specs.Histories.{new_leaf, number_in, row_number}
-use Rattle.history.specs.Secrecy.{all_below, relabelled, with_leaves}
+use Rattle.history.specs.Secrecy.{relabelled, with_leaves}
 
 -- the records requested turn by turn, as numbers
 abbrev pub requested_in : List (Option RecordNumber) → List (Option ℕ)

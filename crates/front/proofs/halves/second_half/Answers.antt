@@ -1,7 +1,7 @@
-use Rattle.std.proofs.Common.{◌≡◌, ◌+◌, ◌*◌, ◌≤◌, true, [], ◌∷◌, length, is_ok, sym, ap, ◌∙◌, arith, rules}
+use Rattle.std.proofs.Common.{◌≡◌, ◌+◌, ◌*◌, true, length, is_ok, ap, ◌∙◌, arith, rules}
 use Rattle.row.specs.Rows.{decoded_row}
 use Rattle.std.proofs.lemmas.Result.{IfOk-at_ok}
-use Rattle.steps.specs.Steps.{arriving, dequeued}
+use Rattle.steps.specs.Steps.{dequeued}
 use Rattle.tree.specs.Queues.{queued}
 use Rattle.front.proofs.SecondHalf.{both_entries, dequeue_long, none_ok, second_passed, step_passes}
 use Rattle.front.proofs.halves.second_half.Goals as goal

@@ -1,14 +1,12 @@
-use Rattle.std.proofs.Common.{◌≡◌, ◌+◌, ◌<◌, ◌≤◌, [], ◌∷◌, ◌++◌, map, length, get_or, vec_items, sym, refl, ap, ◌∙◌, subst, arith}
+use Rattle.std.proofs.Common.{◌≡◌, ◌+◌, ◌<◌, [], ◌∷◌, ◌++◌, map, length, get_or, vec_items, sym, ap, ◌∙◌, subst, arith}
 use Rattle.std.proofs.lemmas.List.{get_or-map, length-map, length_push, map_push}
 use Rattle.std.proofs.lemmas.Result.{IfOk-from_err}
 use Rattle.posmap.specs.Maps.{leaf_numbers}
 use Rattle.front.proofs.Frames.{same_long}
 use Rattle.oram.specs.Calls.{Does, found}
 use Rattle.oram.specs.Orams.{rows_of}
-use Rattle.runs.specs.Pairs.{logs_of}
 use Rattle.secrecy.specs.Lists.{call_in, calls_in, coins_in, outcomes_in}
 use Rattle.secrecy.specs.Ran.{RanTo}
-use Rattle.secrecy.specs.Seen.{flat}
 use Rattle.secrecy.proofs.Going.{ran_more, ran_none}
 use Rattle.secrecy.proofs.running.run.Goals as goal
 

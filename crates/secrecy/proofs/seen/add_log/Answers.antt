@@ -1,4 +1,4 @@
-use Rattle.std.proofs.Common.{◌≡◌, ◌<◌, ◌≤◌, length, vec_items, arith}
+use Rattle.std.proofs.Common.{◌<◌, ◌≤◌, length, vec_items, arith}
 use Rattle.oram.specs.Orams.{rows_of}
 use Rattle.posmap.specs.Maps.{row_at}
 use Rattle.std.proofs.lemmas.Result.{IfOk-at_ok}

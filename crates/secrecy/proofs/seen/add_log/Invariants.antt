@@ -1,4 +1,4 @@
-use Rattle.std.proofs.Common.{◌≡◌, [], ◌∷◌, ◌++◌, length, take, vec_items}
+use Rattle.std.proofs.Common.{◌≡◌, ◌++◌, take, vec_items}
 use Rattle.oram.specs.Orams.{rows_of}
 use Rattle.posmap.specs.Maps.{row_at}
 use Rattle.secrecy.proofs.seen.add_log.Given as goal

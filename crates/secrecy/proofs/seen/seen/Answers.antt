@@ -1,4 +1,4 @@
-use Rattle.std.proofs.Common.{◌≡◌, ◌<◌, ◌≤◌, length, vec_items, arith}
+use Rattle.std.proofs.Common.{◌<◌, ◌≤◌, length, vec_items, arith}
 use Rattle.oram.specs.Orams.{rows_of}
 use Rattle.secrecy.proofs.Flats.{flat-all, flat_more}
 use Rattle.secrecy.proofs.seen.seen.Goals as goal

@@ -3,7 +3,6 @@ use Rattle.front.specs.Fronts.{front_full, front_rows}
 use Rattle.front.proofs.Zeroed.{cleared_order, cleared_rows, cleared_unfit, leaves_long, zeroed_twice}
 use Rattle.posmap.specs.Maps.{rows_zeroed}
 use Rattle.std.proofs.lemmas.List.{length-replicate}
-use Rattle.store.specs.Stores.{zeroed}
 use Rattle.oram.specs.declared.oram.Oram.{Oram}
 use Rattle.oram.specs.Orams.{Begun, most_records}
 use Rattle.oram.proofs.Runs.{begun_works, runs_are_worked}

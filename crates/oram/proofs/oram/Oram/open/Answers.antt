@@ -1,8 +1,8 @@
-use Rattle.std.proofs.Common.{◌≡◌, None, refl, ap, ◌∙◌}
+use Rattle.std.proofs.Common.{None, refl}
 use Rattle.std.proofs.lemmas.Result.{err_from_is_err_and}
 use Rattle.posmap.specs.Maps.{leaf_numbers, naming}
 use Rattle.history.specs.Histories.{opening}
-use Rattle.oram.specs.Calls.{Does, open_time, done, request_refusal}
+use Rattle.oram.specs.Calls.{Does, open_time, done}
 use Rattle.oram.specs.Orams.{records_of, unfit_of}
 use Rattle.oram.proofs.Endings.{one_more, open_done, open_passes, refused_at_once, request_refused, unfit_refuses}
 use Rattle.oram.proofs.Laws.{lawful}

@@ -2,7 +2,6 @@ use Rattle.std.proofs.Common.{◌≡◌, ◌-◌, ◌<◌, length, get_or, take,
 use Rattle.std.proofs.lemmas.Bool.{false≢true}
 use Rattle.posmap.specs.Maps.{SwapDone, leaf_numbers, swap_refusal}
 use Rattle.row.specs.Rows.{decoded_row}
-use Rattle.tree.specs.Queues.{queued}
 use Rattle.front.specs.Fronts.{front_rows}
 use Rattle.front.proofs.Coins.{at, left, length_numbers, numbers_at}
 use Rattle.front.proofs.Frames.{rows_kept, unfit_kept}

@@ -1,5 +1,5 @@
-use Rattle.std.proofs.Common.{◌≡◌, ℕ, List, length, None, refl, ap, ◌∙◌}
-use Rattle.posmap.specs.Maps.{fixed_of, rows_torn}
+use Rattle.std.proofs.Common.{ℕ, List, length, None, refl, ap, ◌∙◌}
+use Rattle.posmap.specs.Maps.{fixed_of}
 use Rattle.tree.specs.Queues.{queued}
 use Rattle.front.specs.Fronts.{front_full, front_rows}
 use Rattle.front.proofs.Zeroed.{same_unfit, torn_fixed, torn_long, torn_rows}

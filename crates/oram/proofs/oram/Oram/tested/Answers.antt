@@ -1,10 +1,10 @@
-use Rattle.std.proofs.Common.{◌≡◌, length, sym, ◌∙◌}
+use Rattle.std.proofs.Common.{length, ◌∙◌}
 use Rattle.std.proofs.lemmas.Result.{err_from_is_err_and}
 use Rattle.posmap.specs.Maps.{leaf_numbers}
 use Rattle.tree.specs.Queues.{queued}
 use Rattle.front.proofs.Fits.{request_five, request_rest}
 use Rattle.oram.specs.Orams.{most_records}
-use Rattle.oram.proofs.Cards.{level_card, same_place}
+use Rattle.oram.proofs.Cards.{same_place}
 use Rattle.oram.proofs.oram.Oram.tested.Goals as goal
 
 pub returns-in_err-shares : goal.returns-in_err-shares

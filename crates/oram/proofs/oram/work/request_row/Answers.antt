@@ -1,4 +1,4 @@
-use Rattle.std.proofs.Common.{◌≡◌, ◌+◌, ◌*◌, ◌<◌, ◌≤◌, true, [], ◌∷◌, ◌++◌, length, is_ok, ap, ◌∙◌, subst, arith}
+use Rattle.std.proofs.Common.{◌≡◌, true, [], ◌∷◌, ◌++◌, length, is_ok, ap, ◌∙◌, subst, arith}
 use Rattle.row.specs.Rows.{decoded_row}
 use Rattle.std.proofs.lemmas.Result.{IfOk-at_ok}
 use Rattle.steps.specs.Steps.{fetched, found, second_half}
