@@ -97,6 +97,16 @@ def library():
     return out
 
 
+def by_recursion(text):
+    """The library's All by recursion goes by the library's name for it: All is another of its words, and the gate takes no other use of it."""
+    out = []
+    for line in text.replace("AllByRecursion as All", "AllByRecursion").split("\n"):
+        if not line.lstrip().startswith(("--", "//")):
+            line = re.sub(r"(?<![A-Za-z0-9_'\-])All(?![A-Za-z0-9_'\-])", "AllByRecursion", line)
+        out.append(line)
+    return "\n".join(out)
+
+
 def join(parts, words):
     """The first dash stays where a function's name stands before it and after it: blockOf-append, length-append_right."""
     if len(parts) > 2 and parts[0] in words and parts[1] in words:
@@ -150,6 +160,8 @@ def main(argv, first):
                 out = re.sub(before + a + r"(?![A-Za-z0-9_'\-])", b, out)
         text = out
         out = TOKEN.sub(turn, text)
+        if "AllByRecursion as All" in out:
+            out = by_recursion(out)
         if out != found:
             with open(p, "w", encoding="utf-8") as f:
                 f.write(out)

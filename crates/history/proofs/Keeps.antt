@@ -2,7 +2,7 @@
 use Rattle.std.proofs.Common.{◌≡◌, ℕ, suc, ◌+◌, ◌*◌, ◌/◌, ◌%◌, ◌^◌, ◌<◌, Bool, true, false, cond, eqb, List, [], ◌∷◌, length, get_or, drop, Some, None, Option, sym, refl, ap, ◌∙◌, subst, ⊎_elim, arith}
 use Rattle.std.proofs.ByRecursion.{All-get_or}
 use Rattle.std.proofs.lemmas.Bool.{both_ways, eqb-true, eq-eqb, cond-true, cases_eq}
-use Rattle.std.specs.List.{AllByRecursion as All}
+use Rattle.std.specs.List.{AllByRecursion}
 use Rattle.history.specs.Histories.{History, Deed, request, deeds, asked, coins_of, Leaves, request_share, new_leaf, numbers_in, leaves_in, latest}
 use Rattle.history.specs.Secrecy.{settled, given, row_given, with_leaves, replaced, all_below, requested_in, relabelled_for, SideBySide, SameShape, Words, RangeOf, EachTurn, InRange, OneToOneOnto, Relabelling, RelabellingIsOneToOne}
 use Rattle.history.proofs.Rows.{ever, Both, start, still, fresh, again, same_ever}
@@ -109,8 +109,8 @@ module _ (R : ℕ) (W : Deed → List ℕ → Type 0) (Q : ℕ → ℕ → Type 
       across (reshaped R v (moved es ds cs) (replaced_shape (λ r. row_given (numbers_in r (asked es)) (numbers_in r (asked ds)) (leaves_in r cs)) (asked ds) cs)) u
 
 -- words
-with_all : (P : ℕ → Type 0) (leaf : ℕ → ℕ) (i : ℕ) (c : List ℕ) → All P c
-    → ((j : ℕ) → j < length c → (i + j) % request_share ≡ 0 → P (leaf ((i + j) / request_share))) → All P (with_leaves leaf i c)
+with_all : (P : ℕ → Type 0) (leaf : ℕ → ℕ) (i : ℕ) (c : List ℕ) → AllByRecursion P c
+    → ((j : ℕ) → j < length c → (i + j) % request_share ≡ 0 → P (leaf ((i + j) / request_share))) → AllByRecursion P (with_leaves leaf i c)
 with_all P leaf i [] h d = tt
 with_all P leaf i (x ∷ c) h d = (go (eqb (i % request_share) 0) refl, with_all P leaf (suc i) c h.1 more)
   where
@@ -127,7 +127,7 @@ with_all P leaf i (x ∷ c) h d = (go (eqb (i % request_share) 0) refl, with_all
         subst (λ n. P (leaf n)) q (d (suc j) (omega arith) (omega arith))
 
 abbrev wordy : Deed → List ℕ → Type 0
-wordy d c = All (λ x. x < 2 ^ 32) c
+wordy d c = AllByRecursion (λ x. x < 2 ^ 32) c
 
 words_in : (ds : List Deed) (cs : List (List ℕ)) → Words cs → EachTurn wordy ds cs
 words_in [] cs h = tt
@@ -149,11 +149,11 @@ coins_long (both_ask m n c p q l w) = ap suc (coins_long w)
 coins_long (both_drain c w) = ap suc (coins_long w)
 coins_long (both_tear c w) = ap suc (coins_long w)
 
-word_says : (R m r : ℕ) (c : List ℕ) → r < R → length c ≡ request_share * R → All (λ x. x < 2 ^ 32) c → new_leaf r c < 2 ^ 32
+word_says : (R m r : ℕ) (c : List ℕ) → r < R → length c ≡ request_share * R → AllByRecursion (λ x. x < 2 ^ 32) c → new_leaf r c < 2 ^ 32
 word_says R m r c b l h = All-get_or (λ x. x < 2 ^ 32) c (request_share * r) 0 (omega arith) h
 
-word_takes : (R m : ℕ) (c : List ℕ) (leaf : ℕ → ℕ) → length c ≡ request_share * R → All (λ x. x < 2 ^ 32) c
-    → ((r : ℕ) → r < R → leaf r < 2 ^ 32) → All (λ x. x < 2 ^ 32) (with_leaves leaf 0 c)
+word_takes : (R m : ℕ) (c : List ℕ) (leaf : ℕ → ℕ) → length c ≡ request_share * R → AllByRecursion (λ x. x < 2 ^ 32) c
+    → ((r : ℕ) → r < R → leaf r < 2 ^ 32) → AllByRecursion (λ x. x < 2 ^ 32) (with_leaves leaf 0 c)
 word_takes R m c leaf l h d = with_all (λ x. x < 2 ^ 32) leaf 0 c h (λ j b e. d ((0 + j) / request_share) (omega arith))
 
 -- leaves of their rows

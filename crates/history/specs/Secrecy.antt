@@ -1,6 +1,6 @@
 -- Relabelled coins: what the second of two lists of calls is given, so that the host sees the same.
 use Rattle.std.specs.Prelude.{◌≡◌, ℕ, suc, ◌-◌, ◌*◌, ◌/◌, ◌%◌, ◌^◌, ◌<◌, Bool, true, false, cond, ◌&&◌, List, [], ◌∷◌, map, length, drop, Some, None, Option, ◌==◌, ◌≢◌, nat_lt, slice_index}
-use Rattle.std.specs.List.{AllByRecursion as All}
+use Rattle.std.specs.List.{AllByRecursion}
 use Rattle.history.specs.Histories.{Call, History, sort, Deed, rest, request, drain, tear_off, deeds, asked, coins_of, calls_of, accepted_in, AllCan, Leaves, request_share, drain_share, new_leaf, numbers_in, leaves_in, latest, prescribed_log, moves_since}
 
 -- alike lists: equally long, and at each turn both open, both drain, both tear off, or each gets or puts
@@ -156,7 +156,7 @@ LeavesOnlyMove R = (N : ℕ) (Ds : List ℕ) (h g : History R) → SideBySide R 
 
 -- every coin fits a word
 abbrev pub Words : List (List ℕ) → Type 0
-Words cs = All (λ c. All (λ x. x < 2 ^ 32) c) cs
+Words cs = AllByRecursion (λ c. AllByRecursion (λ x. x < 2 ^ 32) c) cs
 
 -- the coins of every accepted request and drain are leaves of their rows
 abbrev pub RangeOf : List ℕ → Deed → List ℕ → Type 0

@@ -1,6 +1,6 @@
 -- The run law: an Oram is what its history says, call after call.
 use Rattle.std.specs.Prelude.{◌≡◌, ℕ, ◌+◌, ◌<◌, ◌≤◌, true, List, [], ◌∷◌, length, Some, None, Option, ◌≢◌, slice_index, slice_index_or}
-use Rattle.std.specs.List.{AllByRecursion as All}
+use Rattle.std.specs.List.{AllByRecursion}
 use Rattle.tree.specs.Blocks.{capacity}
 use Rattle.tree.specs.Entries.{drain_moves, request_moves, total}
 use Rattle.record.specs.declared.kind.RecordKind.{Ghosts as KindMeaning}
@@ -55,7 +55,7 @@ moves_after tears Ds k = 0
 
 -- every row can be asked at most 31 numbers
 abbrev pub Small : List MapRow → Type 0
-Small rows = All (λ row. length row.own < capacity) rows
+Small rows = AllByRecursion (λ row. length row.own < capacity) rows
 
 -- a request wants room in every queue, a drain does not
 abbrev pub Room : Sort → Option ℕ → Type 0

@@ -1,7 +1,7 @@
 -- Two matched runs: the first turn that one accepts and the other refuses is refused by 8.
 use Rattle.std.proofs.Common.{◌≡◌, ℕ, zero, suc, ◌<◌, true, false, List, [], ◌∷◌, map, length, drop, IfSome, Some, None, Option, sym, refl, ap, ◌∙◌, subst, arith}
 use Rattle.std.proofs.lemmas.List.{length-map}
-use Rattle.std.specs.List.{AllByRecursion as All}
+use Rattle.std.specs.List.{AllByRecursion}
 use Rattle.tree.specs.Blocks.{capacity}
 use Rattle.record.specs.declared.kind.RecordKind.{Ghosts as KindMeaning}
 use Rattle.store.specs.declared.interface.BucketStore.{Ghosts as StoreMeaning}
@@ -58,7 +58,7 @@ names_asked N (putting n x) b e = b
 names_asked N draining b e = absurd (let z : ◌≡◌ {A = ℕ} 0 1 = cc in let n : ⊥ = omega arith in n)
 names_asked N tearing b e = absurd (let z : ◌≡◌ {A = ℕ} 0 1 = cc in let n : ⊥ = omega arith in n)
 
-all_at : {A : Type 0} (Q : A → Type 0) (xs : List A) → All Q xs → (j : ℕ) (x : A) (ys : List A) → drop j xs ≡ x ∷ ys → Q x
+all_at : {A : Type 0} (Q : A → Type 0) (xs : List A) → AllByRecursion Q xs → (j : ℕ) (x : A) (ys : List A) → drop j xs ≡ x ∷ ys → Q x
 all_at Q [] h zero x ys e = absurd (let z : ◌≡◌ {A = ℕ} 0 1 = cc in let n : ⊥ = omega arith in n)
 all_at Q [] h (suc j) x ys e = absurd (let z : ◌≡◌ {A = ℕ} 0 1 = cc in let n : ⊥ = omega arith in n)
 all_at Q (a ∷ xs) h zero x ys e = let p : a ≡ x = cc in subst Q p h.0

@@ -1,6 +1,6 @@
 -- Two runs beside one another.
 use Rattle.std.specs.Prelude.{◌≡◌, ℕ, ◌<◌, List, [], ◌∷◌, map, Option}
-use Rattle.std.specs.List.{AllByRecursion as All}
+use Rattle.std.specs.List.{AllByRecursion}
 use Rattle.tree.specs.Blocks.{capacity}
 use Rattle.store.specs.declared.interface.BucketStore.{Ghosts as StoreMeaning}
 use Rattle.posmap.specs.declared.interface.PositionMap.{Ghosts as MapMeaning}
@@ -38,7 +38,7 @@ Shaped store meaning N rows unfit o =
 
 -- every row can be asked at most 31 numbers
 abbrev pub SmallRows : List (ℕ × ℕ × ℕ) → Type 0
-SmallRows rows = All (λ row. row.1 < capacity) rows
+SmallRows rows = AllByRecursion (λ row. row.1 < capacity) rows
 
 -- every turn of the second history counts as accepted where that of the first was
 abbrev pub counted_by : {R : Type 0} → History R → History R → History R

@@ -1,7 +1,7 @@
 -- Secrecy: two lists of calls that differ only in records named, records put and get against put leave equal logs under relabelled
 -- coins. Statements about every run of an Oram of one kind of record, one store and one map.
 use Rattle.std.specs.Prelude.{◌≡◌, ℕ, ◌<◌, List, ◌∷◌, length, drop, Option, ◌≢◌}
-use Rattle.std.specs.List.{AllByRecursion as All}
+use Rattle.std.specs.List.{AllByRecursion}
 use Rattle.record.specs.declared.kind.RecordKind.{Ghosts as KindMeaning}
 use Rattle.store.specs.declared.interface.BucketStore.{Ghosts as StoreMeaning}
 use Rattle.posmap.specs.declared.interface.PositionMap.{Ghosts as MapMeaning}
@@ -81,8 +81,8 @@ module _ {K S P F : Type 0} (kind : KindMeaning K) (store : StoreMeaning S) (map
     pub second_began : Began (Shaped store map N rows unfit) ps
     pub alike : Alike (calls_of (history_of ss)) (calls_of (history_of ts))
     pub relabelled : Relabelled N ss ts
-    pub first_names : All (NamesBelow N) (calls_of (history_of ss))
-    pub second_names : All (NamesBelow N) (calls_of (history_of ts))
+    pub first_names : AllByRecursion (NamesBelow N) (calls_of (history_of ss))
+    pub second_names : AllByRecursion (NamesBelow N) (calls_of (history_of ts))
 
   -- DIFFER BY 8 ONLY: the first turn at which one accepts and the other refuses is refused by 8
   abbrev pub DifferByEightOnly : Type 0

@@ -1,13 +1,13 @@
 -- A bucket after other places were put there, or elsewhere.
 use Rattle.std.proofs.Common.{◌≡◌, ℕ, zero, suc, ◌-◌, ◌<◌, ◌≤◌, List, [], ◌∷◌, length, get_or, set, sym, refl, arith}
-use Rattle.std.specs.List.{AllByRecursion as All}
+use Rattle.std.specs.List.{AllByRecursion}
 use Rattle.std.proofs.lemmas.List.{get_or-set_other}
 use Rattle.tree.specs.declared.place.Place.{Place}
 use Rattle.steps.specs.Steps.{Buckets, bucket, with_bucket}
 
 module _ {X : Type 0} (d : X) where
   -- what holds of all, and of the default
-  pub all_at : (P : X → Type 0) (xs : List X) (i : ℕ) → P d → All P xs → P (get_or xs i d)
+  pub all_at : (P : X → Type 0) (xs : List X) (i : ℕ) → P d → AllByRecursion P xs → P (get_or xs i d)
   all_at P [] i h a = h
   all_at P (x ∷ xs) zero h a = a.0
   all_at P (x ∷ xs) (suc i) h a = all_at P xs i h a.1

@@ -1,6 +1,6 @@
 -- In a row in order, a fetch of number i along the leaf that the list has for it takes out just the block of that number.
 use Rattle.std.proofs.Common.{◌≡◌, ℕ, zero, suc, ◌-◌, ◌<◌, ◌≤◌, ◌⊎◌, List, [], ◌∷◌, ◌++◌, length, get_or, sym, refl, ap, ◌∙◌, subst, inl, inr, arith}
-use Rattle.std.specs.List.{flat_map, AllByRecursion as All}
+use Rattle.std.specs.List.{flat_map, AllByRecursion}
 use Rattle.std.proofs.ByRecursion.{All-append, All-from_get_or}
 use Rattle.std.proofs.lemmas.Bool.{cases_eq}
 use Rattle.tree.specs.declared.block.Block.{Block}
@@ -58,18 +58,18 @@ joined_others n (c ∷ cs) (b ∷ bs) e h =
 
 -- the blocks of a path are blocks of the buckets
 module _ (P : Block → Type 0) (D m : ℕ) (bs : Buckets) where
-  path_all : All P (flat_map blocks_in bs) → (k : ℕ) → All P (path_blocks D m bs k)
+  path_all : AllByRecursion P (flat_map blocks_in bs) → (k : ℕ) → AllByRecursion P (path_blocks D m bs k)
   path_all a zero = tt
   path_all a (suc k) =
       All-append P (path_blocks D m bs k) _ (path_all a k)
-      (all_at [] (λ ps. All P (blocks_in ps)) bs (path D m k - 1) tt (all_each P blocks_in bs a))
+      (all_at [] (λ ps. AllByRecursion P (blocks_in ps)) bs (path D m k - 1) tt (all_each P blocks_in bs a))
 
-  path_each : (d k : ℕ) → d < k → All P (path_blocks D m bs k) → All P (blocks_in (bucket bs (path D m d)))
+  path_each : (d k : ℕ) → d < k → AllByRecursion P (path_blocks D m bs k) → AllByRecursion P (blocks_in (bucket bs (path D m d)))
   path_each d zero l a = absurd (let z : ⊥ = omega arith in z)
   path_each d (suc k) l a =
       let r = all_parts P (path_blocks D m bs k) _ a in
       elim (cases_eq d k) [
-        | inl e ↦ subst (λ x. All P (blocks_in (bucket bs (path D m x)))) (sym e) r.1
+        | inl e ↦ subst (λ x. AllByRecursion P (blocks_in (bucket bs (path D m x)))) (sym e) r.1
         | inr n ↦ path_each d k (omega arith) r.0
       ]
 
@@ -84,7 +84,7 @@ module _ (D : ℕ) (leaves : List ℕ) (row : Row) (o : InOrder D leaves row) (i
       (λ b on known e.
       off.1 on.1.0 on.1.1 (ap (λ l. path D l on.1.0) (sym (known ∙ ap (λ n. get_or leaves n 0) e)) ∙ on.1.2))
       (blocks_in (bucket row.buckets v)) (o.placed.tree v off.0)
-      (all_at [] (λ ps. All (λ b. b.leaf.0 ≡ get_or leaves b.number.0 0) (blocks_in ps)) row.buckets (v - 1) tt
+      (all_at [] (λ ps. AllByRecursion (λ b. b.leaf.0 ≡ get_or leaves b.number.0 0) (blocks_in ps)) row.buckets (v - 1) tt
       (all_each _ blocks_in row.buckets (all_parts _ row.queue _ o.known).1))
 
   bucket_loses : (k : ℕ) → blocks_in (get_or (fetched D i m row).buckets k []) ≡ others i (blocks_in (get_or row.buckets k []))

@@ -2,7 +2,7 @@
 use Rattle.std.proofs.Common.{◌≡◌, ℕ, zero, suc, ◌<◌, ◌≤◌, Bool, true, false, cond, List, [], ◌∷◌, ◌++◌, length, Some, None, sym, refl, ap, ◌∙◌, subst, arith}
 use mathlib.Core.List.Permᴰ
 use mathlib.Core.List.{Permᴰ}
-use Rattle.std.specs.List.{AllByRecursion as All}
+use Rattle.std.specs.List.{AllByRecursion}
 use Rattle.std.proofs.ByRecursion.{All-weaker}
 use Rattle.std.proofs.lemmas.Bool.{and_parts, and_from, not-true, not_from_false, or_parts, or_from, ne_eqb, eqb-true, eqb-false, cond-true, cond-false, cond_both}
 use Rattle.tree.specs.declared.block.Block.{Block}
@@ -11,7 +11,7 @@ use Rattle.steps.proofs.Everywhere.{all_rearranged, all_parts, all_with}
 
 -- no block has the number n
 abbrev pub Lacks : ℕ → List Block → Type 0
-Lacks n bs = All (λ b. b.number.0 ≡ n → ⊥) bs
+Lacks n bs = AllByRecursion (λ b. b.number.0 ≡ n → ⊥) bs
 
 -- no number twice
 abbrev pub Apart : List Block → Type 0
@@ -67,18 +67,18 @@ lacks_block_of n (b ∷ bs) e = go (numbered n b) refl e (lacks_block_of n bs)
     go false s h rest = (eqb-false _ _ s, rest h)
 
 -- where no number stands twice, each block is the one that its number finds
-pub finds_itself : (n : ℕ) (bs : List Block) → Apart bs → All (λ b. b.number.0 ≡ n → block_of n bs ≡ Some b) bs
+pub finds_itself : (n : ℕ) (bs : List Block) → Apart bs → AllByRecursion (λ b. b.number.0 ≡ n → block_of n bs ≡ Some b) bs
 finds_itself n [] a = tt
 finds_itself n (b ∷ bs) a = go (numbered n b) refl (finds_itself n bs a.1)
   where
-    go : (t : Bool) → numbered n b ≡ t → All (λ c. c.number.0 ≡ n → block_of n bs ≡ Some c) bs
-        → All (λ c. c.number.0 ≡ n → cond t (Some b) (block_of n bs) ≡ Some c) (b ∷ bs)
+    go : (t : Bool) → numbered n b ≡ t → AllByRecursion (λ c. c.number.0 ≡ n → block_of n bs ≡ Some c) bs
+        → AllByRecursion (λ c. c.number.0 ≡ n → cond t (Some b) (block_of n bs) ≡ Some c) (b ∷ bs)
     go true s rest =
         (λ _. refl, All-weaker _ _ (λ c other e. absurd (other (e ∙ sym (eqb-true _ _ s)))) bs a.0)
     go false s rest = (λ e. absurd (eqb-false _ _ s e), rest)
 
 -- two lists hold the same under n: what the first has of that number the second finds, and it has none where the first has none
-pub same_block : (n : ℕ) (bs cs : List Block) → All (λ b. b.number.0 ≡ n → block_of n cs ≡ Some b) bs
+pub same_block : (n : ℕ) (bs cs : List Block) → AllByRecursion (λ b. b.number.0 ≡ n → block_of n cs ≡ Some b) bs
     → (Lacks n bs → Lacks n cs) → block_of n bs ≡ block_of n cs
 same_block n [] cs a h = sym (block_of_lacks n cs (h tt))
 same_block n (b ∷ bs) cs a h =
@@ -94,11 +94,11 @@ block_of_rearranged n bs cs d a =
     same_block n bs cs (all_rearranged _ (Permᴰ.symm d) (finds_itself n cs (apart_rearranged d a))) (all_rearranged _ d)
 
 -- the blocks without those of the number n: what held of all holds, and no number stands twice
-pub others-all : (P : Block → Type 0) (n : ℕ) (bs : List Block) → All P bs → All P (others n bs)
+pub others-all : (P : Block → Type 0) (n : ℕ) (bs : List Block) → AllByRecursion P bs → AllByRecursion P (others n bs)
 others-all P n [] a = a
 others-all P n (b ∷ bs) a =
     let rest = others-all P n bs a.1 in
-    cond_both (numbered n b) (others n bs) (b ∷ others n bs) (All P) (λ _. rest) (λ _. (a.0, rest))
+    cond_both (numbered n b) (others n bs) (b ∷ others n bs) (AllByRecursion P) (λ _. rest) (λ _. (a.0, rest))
 
 pub others_apart : (n : ℕ) (bs : List Block) → Apart bs → Apart (others n bs)
 others_apart n [] a = tt
@@ -154,7 +154,7 @@ others_fewer n (b ∷ bs) a = go (numbered n b) refl (others_fewer n bs a.1)
     go true s rest = omega (arith, ap length (others-none n bs (subst (λ x. Lacks x bs) (eqb-true _ _ s) a.0)))
     go false s rest = omega arith
 
-pub few : (n : ℕ) (bs : List Block) → Apart bs → All (λ b. b.number.0 < n) bs → length bs ≤ n
+pub few : (n : ℕ) (bs : List Block) → Apart bs → AllByRecursion (λ b. b.number.0 < n) bs → length bs ≤ n
 few zero [] a h = omega arith
 few zero (b ∷ bs) a h = absurd (let z : ⊥ = omega (arith, h.0) in z)
 few (suc n) bs a h =

@@ -3,7 +3,7 @@ use Rattle.std.proofs.Common.{◌≡◌, ℕ, zero, suc, ◌+◌, ◌^◌, ◌<�
 use mathlib.Core.List.Permᴰ
 use mathlib.Core.List.{Permᴰ}
 use Rattle.std.specs.Option.{option_map}
-use Rattle.std.specs.List.{flat_map, AllByRecursion as All}
+use Rattle.std.specs.List.{flat_map, AllByRecursion}
 use Rattle.std.proofs.lemmas.Nat.{pow_pos}
 use Rattle.std.proofs.ByRecursion.{All-get_or, All-set}
 use Rattle.std.proofs.lemmas.List.{get_or-set_other, length-append, length-set}
@@ -52,8 +52,8 @@ first_half_lem D leaves i new row o l fits =
 
 -- a row whose blocks are a rearrangement of blocks with no number twice
 module _ (bs : List Block) (distinct : apart bs ≡ true) (row : Row) (moves : Permᴰ bs (row_blocks row)) where
-  reordered : (D : ℕ) (leaves : List ℕ) → All (All Ok) row.buckets → Placed D row → All (λ b. b.number.0 < length leaves) bs
-      → All (λ b. b.leaf.0 ≡ get_or leaves b.number.0 0) bs → All (λ m. m < 2 ^ D) leaves → InOrder D leaves row
+  reordered : (D : ℕ) (leaves : List ℕ) → AllByRecursion (AllByRecursion Ok) row.buckets → Placed D row → AllByRecursion (λ b. b.number.0 < length leaves) bs
+      → AllByRecursion (λ b. b.leaf.0 ≡ get_or leaves b.number.0 0) bs → AllByRecursion (λ m. m < 2 ^ D) leaves → InOrder D leaves row
   reordered D leaves whole placed counted known fit =
       record {
         whole = whole;
@@ -147,7 +147,7 @@ cleared D n count =
       distinct = rw (no_blocks count);
       placed = record {
         tree = λ v _.
-            all_at [] (λ ps. All (λ b. OnPath D b.leaf.0 v) (blocks_in ps)) (cleared_row count).buckets _ tt
+            all_at [] (λ ps. AllByRecursion (λ b. OnPath D b.leaf.0 v) (blocks_in ps)) (cleared_row count).buckets _ tt
             (all_replicate _ count (replicate 4 empty_place) tt);
         waiting = tt;
       };

@@ -1,6 +1,6 @@
 -- After every step each block has its bucket on its own path, if that was so before.
 use Rattle.std.proofs.Common.{◌≡◌, ℕ, zero, suc, ◌-◌, ◌^◌, ◌<◌, ◌≤◌, Bool, true, false, cond, List, [], ◌∷◌, ◌++◌, get_or, set, IfSome, Some, None, Option, refl, inl, inr, arith}
-use Rattle.std.specs.List.{AllByRecursion as All}
+use Rattle.std.specs.List.{AllByRecursion}
 use Rattle.std.proofs.ByRecursion.{All-set, All-push}
 use Rattle.std.proofs.lemmas.Bool.{and_parts, ltb-true, eqb-true, cases_eq, false≢true, cond_both}
 use Rattle.tree.specs.declared.block.Block.{Block}
@@ -20,29 +20,29 @@ use Rattle.tree.proofs.Firsts.{chosen_moves}
 abbrev Of : (Block → Type 0) → Place → Type 0
 Of P p = has_block p ≡ true → P (block_in p)
 
-of_places : (P : Block → Type 0) (ps : List Place) → All P (blocks_in ps) → All (Of P) ps
+of_places : (P : Block → Type 0) (ps : List Place) → AllByRecursion P (blocks_in ps) → AllByRecursion (Of P) ps
 of_places P [] a = a
 of_places P (p ∷ ps) a = go (has_block p) a (of_places P ps)
   where
-    go : (h : Bool) → All P (cond h (block_in p ∷ blocks_in ps) (blocks_in ps)) → (All P (blocks_in ps) → All (Of P) ps)
-        → (h ≡ true → P (block_in p)) × All (Of P) ps
+    go : (h : Bool) → AllByRecursion P (cond h (block_in p ∷ blocks_in ps) (blocks_in ps)) → (AllByRecursion P (blocks_in ps) → AllByRecursion (Of P) ps)
+        → (h ≡ true → P (block_in p)) × AllByRecursion (Of P) ps
     go true k rest = (λ _. k.0, rest k.1)
     go false k rest = (λ e. absurd (false≢true e), rest k)
 
-from_places : (P : Block → Type 0) (ps : List Place) → All (Of P) ps → All P (blocks_in ps)
+from_places : (P : Block → Type 0) (ps : List Place) → AllByRecursion (Of P) ps → AllByRecursion P (blocks_in ps)
 from_places P [] a = a
 from_places P (p ∷ ps) a =
     let rest = from_places P ps a.1 in
-    cond_both (has_block p) (block_in p ∷ blocks_in ps) (blocks_in ps) (All P) (λ e. (a.0 e, rest)) (λ _. rest)
+    cond_both (has_block p) (block_in p ∷ blocks_in ps) (blocks_in ps) (AllByRecursion P) (λ e. (a.0 e, rest)) (λ _. rest)
 
-blocks_set : (P : Block → Type 0) (ps : List Place) (i : ℕ) (p : Place) → Of P p → All P (blocks_in ps) → All P (blocks_in (set ps i p))
+blocks_set : (P : Block → Type 0) (ps : List Place) (i : ℕ) (p : Place) → Of P p → AllByRecursion P (blocks_in ps) → AllByRecursion P (blocks_in (set ps i p))
 blocks_set P ps i p h a = from_places P (set ps i p) (All-set (Of P) ps i p h (of_places P ps a))
 
-blocks_emptied : (P : Block → Type 0) (ps : List Place) (o : Option ℕ) → All P (blocks_in ps) → All P (blocks_in (emptied ps o))
+blocks_emptied : (P : Block → Type 0) (ps : List Place) (o : Option ℕ) → AllByRecursion P (blocks_in ps) → AllByRecursion P (blocks_in (emptied ps o))
 blocks_emptied P ps None a = a
 blocks_emptied P ps (Some i) a = blocks_set P ps i empty_place (λ e. absurd (false≢true e)) a
 
-blocks_filled : (P : Block → Type 0) (ps : List Place) (p : Place) (o : Option ℕ) → Of P p → All P (blocks_in ps) → All P (blocks_in (filled ps p o))
+blocks_filled : (P : Block → Type 0) (ps : List Place) (p : Place) (o : Option ℕ) → Of P p → AllByRecursion P (blocks_in ps) → AllByRecursion P (blocks_in (filled ps p o))
 blocks_filled P ps p None h a = a
 blocks_filled P ps p (Some i) h a = blocks_set P ps i p h a
 
@@ -52,12 +52,12 @@ Fits D v b = OnPath D b.leaf.0 v
 
 -- every block stands on its own path
 abbrev Held : ℕ → Buckets → Type 0
-Held D bs = (v : ℕ) → 1 ≤ v → All (Fits D v) (blocks_in (bucket bs v))
+Held D bs = (v : ℕ) → 1 ≤ v → AllByRecursion (Fits D v) (blocks_in (bucket bs v))
 
-held-set : (D : ℕ) (bs : Buckets) (u : ℕ) (ps : List Place) → 1 ≤ u → All (Fits D u) (blocks_in ps) → Held D bs → Held D (with_bucket bs u ps)
+held-set : (D : ℕ) (bs : Buckets) (u : ℕ) (ps : List Place) → 1 ≤ u → AllByRecursion (Fits D u) (blocks_in ps) → Held D bs → Held D (with_bucket bs u ps)
 held-set D bs u ps h a held v k =
     elim (cases_eq u v) [
-      | inl e ↦ rw (← e) (set_at [] (λ qs. All (Fits D u) (blocks_in qs)) bs (u - 1) ps tt a)
+      | inl e ↦ rw (← e) (set_at [] (λ qs. AllByRecursion (Fits D u) (blocks_in qs)) bs (u - 1) ps tt a)
       | inr n ↦ rw (bucket_other bs u v ps h k n) (held v k)
     ]
 
@@ -98,8 +98,8 @@ flushed-held : (D m : ℕ) (bs : Buckets) (k : ℕ) → k ≤ D → Held D bs �
 flushed-held D m bs zero l held = held
 flushed-held D m bs (suc k) l held = moved-held D m (flushed_to D m bs k) k l (flushed-held D m bs k (omega arith) held)
 
-arrived-all : (P : Block → Type 0) (b : Block) (bs : List Block) → P b → All P bs → All P (arrived b bs)
-arrived-all P b bs h a = cond_both (accepts b bs) (bs ++ b ∷ []) bs (All P) (λ _. All-push P bs b a h) (λ _. a)
+arrived-all : (P : Block → Type 0) (b : Block) (bs : List Block) → P b → AllByRecursion P bs → AllByRecursion P (arrived b bs)
+arrived-all P b bs h a = cond_both (accepts b bs) (bs ++ b ∷ []) bs (AllByRecursion P) (λ _. All-push P bs b a h) (λ _. a)
 
 fetch : (D n m : ℕ) (row : Row) → Placed D row → Placed D (fetched D n m row)
 fetch D n m row h =
@@ -114,7 +114,7 @@ arrive D None row l h = h
 arrive D (Some b) row l h =
     record { tree = h.tree; waiting = arrived-all (λ x. x.leaf.0 < 2 ^ D) b row.queue l h.waiting }
 
-put_back_from_lem : (D : ℕ) (bs : Buckets) (q : List Block) → Held D bs → All (λ b. b.leaf.0 < 2 ^ D) q → Placed D (put_back_from bs q)
+put_back_from_lem : (D : ℕ) (bs : Buckets) (q : List Block) → Held D bs → AllByRecursion (λ b. b.leaf.0 < 2 ^ D) q → Placed D (put_back_from bs q)
 put_back_from_lem D bs [] held w = record { tree = held; waiting = w }
 put_back_from_lem D bs (b ∷ rest) held w = at (entry_place b (bucket bs 1))
   where

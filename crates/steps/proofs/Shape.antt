@@ -1,7 +1,7 @@
 -- A step keeps the number of buckets, and how many places each has.
 use Rattle.std.proofs.Common.{◌≡◌, ℕ, zero, suc, List, [], ◌∷◌, map, length, get_or, set, Some, None, Option, sym, refl, ap, ◌∙◌}
 use lib.ListN.{get_or-map}
-use Rattle.std.specs.List.{AllByRecursion as All}
+use Rattle.std.specs.List.{AllByRecursion}
 use Rattle.std.proofs.ByRecursion.{All-map}
 use Rattle.std.proofs.lemmas.List.{length-map, length-set, map-set, set-get_or}
 use Rattle.tree.specs.declared.block.Block.{Block}
@@ -14,7 +14,7 @@ use Rattle.steps.specs.Laws.{KeepsShape, StepsKeepShape}
 abbrev sizes : Buckets → List ℕ
 sizes bs = map length bs
 
-all_of_map : {X Y : Type 0} (P : Y → Type 0) (f : X → Y) (xs : List X) → All P (map f xs) → All (λ x. P (f x)) xs
+all_of_map : {X Y : Type 0} (P : Y → Type 0) (f : X → Y) (xs : List X) → AllByRecursion P (map f xs) → AllByRecursion (λ x. P (f x)) xs
 all_of_map P f [] h = h
 all_of_map P f (x ∷ xs) h = (h.0, all_of_map P f xs h.1)
 

@@ -1,6 +1,6 @@
 -- What holds of every place of a row holds after each step, if it holds of the empty place and of a place for any block.
 use Rattle.std.proofs.Common.{ℕ, zero, suc, ◌-◌, List, [], ◌∷◌, Some, None, Option}
-use Rattle.std.specs.List.{AllByRecursion as All}
+use Rattle.std.specs.List.{AllByRecursion}
 use Rattle.std.proofs.ByRecursion.{All-set}
 use Rattle.tree.specs.declared.block.Block.{Block}
 use Rattle.tree.specs.declared.place.Place.{Place}
@@ -12,19 +12,19 @@ use Rattle.steps.proofs.Buckets.{all_at}
 module _ (P : Place → Type 0) (none : P empty_place) (some : (b : Block) → P (place_for b)) where
   -- of every place of every bucket
   abbrev Every : Buckets → Type 0
-  Every bs = All (All P) bs
+  Every bs = AllByRecursion (AllByRecursion P) bs
 
-  every_at : (bs : Buckets) (v : ℕ) → Every bs → All P (bucket bs v)
-  every_at bs v a = all_at [] (All P) bs (v - 1) tt a
+  every_at : (bs : Buckets) (v : ℕ) → Every bs → AllByRecursion P (bucket bs v)
+  every_at bs v a = all_at [] (AllByRecursion P) bs (v - 1) tt a
 
-  every_with : (bs : Buckets) (v : ℕ) (ps : List Place) → All P ps → Every bs → Every (with_bucket bs v ps)
-  every_with bs v ps h a = All-set (All P) bs (v - 1) ps h a
+  every_with : (bs : Buckets) (v : ℕ) (ps : List Place) → AllByRecursion P ps → Every bs → Every (with_bucket bs v ps)
+  every_with bs v ps h a = All-set (AllByRecursion P) bs (v - 1) ps h a
 
-  emptied_every : (ps : List Place) (o : Option ℕ) → All P ps → All P (emptied ps o)
+  emptied_every : (ps : List Place) (o : Option ℕ) → AllByRecursion P ps → AllByRecursion P (emptied ps o)
   emptied_every ps None a = a
   emptied_every ps (Some i) a = All-set P ps i empty_place none a
 
-  filled_every : (ps : List Place) (p : Place) (o : Option ℕ) → P p → All P ps → All P (filled ps p o)
+  filled_every : (ps : List Place) (p : Place) (o : Option ℕ) → P p → AllByRecursion P ps → AllByRecursion P (filled ps p o)
   filled_every ps p None h a = a
   filled_every ps p (Some i) h a = All-set P ps i p h a
 

@@ -1,6 +1,6 @@
 -- The bench cases: a table of what the definitions give beside what the rules say.
 use Rattle.std.specs.Prelude.{◌≡◌, ℕ, ◌+◌, List, [], ◌∷◌, length, replicate, refl}
-use Rattle.std.specs.List.{flat_map, AllByRecursion as All}
+use Rattle.std.specs.List.{flat_map, AllByRecursion}
 use Rattle.tree.specs.declared.place.Place.{Place}
 use Rattle.tree.specs.Entries.{drain_entries, flush_entries, request_entries}
 use Rattle.tree.specs.Paths.{path}
@@ -88,4 +88,4 @@ bench_table = path_case ∷ flush_case ∷ request_case ∷ count_case ∷ close
 
 -- in every case the definitions give what the rules say
 abbrev pub BenchTableStands : Type 0
-BenchTableStands = All (λ c. c.given ≡ c.expected) bench_table
+BenchTableStands = AllByRecursion (λ c. c.given ≡ c.expected) bench_table

@@ -1,7 +1,7 @@
 -- What holds of the steps of a row, whatever it holds.
 use Rattle.std.specs.Prelude.{◌≡◌, ℕ, zero, suc, ◌^◌, ◌<◌, ◌≤◌, true, List, [], ◌++◌, length, IfSome, Option, ◌≢◌}
 use mathlib.Core.List.{Permᴰ}
-use Rattle.std.specs.List.{flat_map, AllByRecursion as All}
+use Rattle.std.specs.List.{flat_map, AllByRecursion}
 use Rattle.tree.specs.declared.block.Block.{Block}
 use Rattle.tree.specs.Blocks.{others, block_of, apart}
 use Rattle.tree.specs.Paths.{path}
@@ -19,11 +19,11 @@ path_blocks D m bs (suc k) = path_blocks D m bs k ++ blocks_in (bucket bs (path 
 
 -- every bucket has four places
 abbrev pub FourEach : Buckets → Type 0
-FourEach bs = All (λ ps. length ps ≡ 4) bs
+FourEach bs = AllByRecursion (λ ps. length ps ≡ 4) bs
 
 -- no bucket has a number twice
 abbrev pub ApartEach : Buckets → Type 0
-ApartEach bs = All (λ ps. apart (blocks_in ps) ≡ true) bs
+ApartEach bs = AllByRecursion (λ ps. apart (blocks_in ps) ≡ true) bs
 
 -- bucket v lies on the path of leaf m
 abbrev pub OnPath : ℕ → ℕ → ℕ → Type 0
@@ -31,8 +31,8 @@ OnPath D m v = (m < 2 ^ D) × ((d : ℕ) × (d ≤ D) × (path D m d ≡ v))
 
 -- every block has its bucket on its own path, and every block of the queue has a path
 pub record Placed (D : ℕ) (row : Row) : Type 0 where
-  pub tree : (v : ℕ) → 1 ≤ v → All (λ b. OnPath D b.leaf.0 v) (blocks_in (bucket row.buckets v))
-  pub waiting : All (λ b. b.leaf.0 < 2 ^ D) row.queue
+  pub tree : (v : ℕ) → 1 ≤ v → AllByRecursion (λ b. OnPath D b.leaf.0 v) (blocks_in (bucket row.buckets v))
+  pub waiting : AllByRecursion (λ b. b.leaf.0 < 2 ^ D) row.queue
 
 -- A step keeps the number of buckets, and four places each.
 pub record KeepsShape (before after : Row) : Type 0 where

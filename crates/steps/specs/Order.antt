@@ -1,7 +1,7 @@
 -- A row in order, and what its steps then keep: its numbers find the words that they were given.
 use Rattle.std.specs.Prelude.{◌≡◌, ℕ, ◌^◌, ◌<◌, Bool, true, ◌||◌, List, [], length, replicate, IfSome, None, Option, ◌≢◌, slice_index, slice_set}
 use Rattle.std.specs.Option.{option_map}
-use Rattle.std.specs.List.{AllByRecursion as All}
+use Rattle.std.specs.List.{AllByRecursion}
 use Rattle.tree.specs.declared.block.Block.{Block}
 use Rattle.tree.specs.declared.place.Place.{Place}
 use Rattle.tree.specs.Blocks.{apart, block_of, capacity}
@@ -16,17 +16,17 @@ empty_or_block p = is_empty p || has_block p
 -- A row of depth D with a leaf for each of its numbers is in order.
 pub record InOrder (D : ℕ) (leaves : List ℕ) (row : Row) : Type 0 where
   -- every place is empty or a block
-  pub whole : All (λ ps. All (λ p. empty_or_block p ≡ true) ps) row.buckets
+  pub whole : AllByRecursion (λ ps. AllByRecursion (λ p. empty_or_block p ≡ true) ps) row.buckets
   -- no number twice in queue and buckets together
   pub distinct : apart (row_blocks row) ≡ true
   -- every block in bucket v has v on its path
   pub placed : Placed D row
   -- every number is below the row's count
-  pub counted : All (λ b. b.number.0 < length leaves) (row_blocks row)
+  pub counted : AllByRecursion (λ b. b.number.0 < length leaves) (row_blocks row)
   -- every block's leaf is the one that the list has for its number
-  pub known : All (λ b. b.leaf.0 ≡ slice_index leaves b.number.0) (row_blocks row)
+  pub known : AllByRecursion (λ b. b.leaf.0 ≡ slice_index leaves b.number.0) (row_blocks row)
   -- and each leaf is one of the tree
-  pub leaves_fit : All (λ m. m < 2 ^ D) leaves
+  pub leaves_fit : AllByRecursion (λ m. m < 2 ^ D) leaves
 
 -- what a row holds under number i: eight words, or none
 abbrev pub content : ℕ → Row → Option (List ℕ)

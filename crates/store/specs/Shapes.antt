@@ -5,7 +5,7 @@ use Rattle.std.proofs.Math.Nat.{mul-div-le}
 use Rattle.std.proofs.ByRecursion.{All-set}
 use Rattle.std.proofs.lemmas.List.{length_push, length-set, length-take-le}
 use Rattle.std.proofs.lemmas.Bool.{cond_both}
-use Rattle.std.specs.List.{AllByRecursion as All}
+use Rattle.std.specs.List.{AllByRecursion}
 use Rattle.store.specs.Stores.{Shape, bucket_words, is_bucket, replaced}
 use Rattle.store.specs.Tails.{entry_words, kind_at, number_at, numbers_in, replayed, tail_span, words_at, write_kind}
 use Rattle.store.specs.Layout.{pieces, bucket_count, buckets_in, span_of}
@@ -15,7 +15,7 @@ length-pieces w zero xs = refl
 length-pieces w (suc n) xs = ap suc (length-pieces w n (drop w xs))
 
 -- each piece of a list that is long enough is whole
-pub all_whole : (w n : ℕ) (xs : List ℕ) → w * n ≤ length xs → All (λ b. length b ≡ w) (pieces w n xs)
+pub all_whole : (w n : ℕ) (xs : List ℕ) → w * n ≤ length xs → AllByRecursion (λ b. length b ≡ w) (pieces w n xs)
 all_whole w zero xs h = tt
 all_whole w (suc n) xs h =
     let s = mul-suc w n in
@@ -56,7 +56,7 @@ length-replayed (suc k) tail bs =
 
 -- a write leaves each bucket whole, since its entry is whole
 pub replayed_whole : (k : ℕ) (tail : List ℕ) (bs : List (List ℕ)) → entry_words * k ≤ length tail
-    → All (λ b. length b ≡ bucket_words) bs → All (λ b. length b ≡ bucket_words) (replayed k tail bs)
+    → AllByRecursion (λ b. length b ≡ bucket_words) bs → AllByRecursion (λ b. length b ≡ bucket_words) (replayed k tail bs)
 replayed_whole zero tail bs h all = all
 replayed_whole (suc k) tail bs h all =
     let r = replayed k tail bs in
@@ -65,7 +65,7 @@ replayed_whole (suc k) tail bs h all =
     let whole : length (words_at tail k) ≡ bucket_words =
     length-take-le bucket_words (drop (entry_words * k + 2) tail) (omega (arith, length-drop (entry_words * k + 2) tail)) in
     cond_both (kind_at tail k == write_kind && is_bucket (length r) n) (replaced r n (words_at tail k)) r
-    (λ z. All (λ b. length b ≡ bucket_words) z)
+    (λ z. AllByRecursion (λ b. length b ≡ bucket_words) z)
     (λ _. All-set (λ b. length b ≡ bucket_words) r (n - 1) (words_at tail k) whole before) (λ _. before)
 
 -- the entries in use are whole

@@ -1,6 +1,6 @@
 -- What a bucket store means: its buckets, its span and its log, and how each call is answered.
 use Rattle.std.specs.Prelude.{◌≡◌, ℕ, ◌+◌, ◌-◌, ◌^◌, ◌<◌, ◌≤◌, Bool, cond, ◌&&◌, List, [], ◌∷◌, ◌++◌, length, replicate, Some, None, Ok, Err, Option, Result, nat_le, nat_lt, slice_index, slice_index_or, slice_set}
-use Rattle.std.specs.List.{AllByRecursion as All}
+use Rattle.std.specs.List.{AllByRecursion}
 use Rattle.tree.specs.declared.numbers.BucketNumber.{BucketNumber}
 use Rattle.store.specs.declared.fault.StoreFault.{StoreFault}
 use Rattle.store.specs.declared.fault.StoreFault.TheVariants.{Full, NoBucket, NoEntry}
@@ -16,7 +16,7 @@ widest_span = 65536
 -- what holds of every store, whatever was done to it
 pub record Shape (buckets : List (List ℕ)) (span : ℕ) (log : List ℕ) : Type 0 where
   -- each bucket has forty words
-  pub forty : All (λ b. length b ≡ bucket_words) buckets
+  pub forty : AllByRecursion (λ b. length b ≡ bucket_words) buckets
   -- a span is at most 65,536
   pub narrow : span ≤ widest_span
   -- the log holds no more than the span
