@@ -1,6 +1,5 @@
-// Two lists of calls side by side, and the whole secrecy law on the contract of one call.
+// Towards two lists of calls run side by side: calls as values, when two lists of them are alike, and what the host sees.
 #![tactic(auto)]
 
 pub mod calls;
-mod running;
 mod seen;

@@ -42,8 +42,9 @@ impl<K: RecordKind, S: StoreUpkeep, P: MapUpkeep> Oram<K, S, P> {
         }
     }
 
-    // Empties every row's log and changes nothing else, whatever coins are brought along.
-    pub fn tear_off(&mut self)
+    // Empties every row's log and changes nothing else, whatever coins are brought along. Not public yet: it becomes a call of an Oram
+    // together with the run that lays two lists of calls side by side.
+    pub(crate) fn tear_off(&mut self)
         ensures does { (coins : List ℕ) → Does K.RecordKind S.BucketStore P.PositionMap coins self.old self.new tearing (did None) }
         ensures law { (coins : List ℕ) → Lawful K.RecordKind S.BucketStore P.PositionMap coins self.old self.new tearing (did None) }
         ensures below { P.MapUpkeep.torn self.old.below self.new.below }
