@@ -16,6 +16,9 @@ APART = {
     "askedIn": "requested_in",
     "showsFirst": "shows_in_first",
     "showsSecond": "shows_in_second",
+    "put-back": "of_put_back",
+    "first-half": "of_first_half",
+    "second-half": "of_second_half",
     "rows-drained": "drains_rows",
     "row-swapped": "swaps_row",
     "in-range": "within_range",
@@ -31,10 +34,12 @@ APART = {
     "fetch-to": "length-fetch_to",
     "flush-to": "length-flush_to",
 }
-# a level's own row, which is no row_of of a fault, and a lemma that the definition hasRoom would meet:
+# a level's own row, which is no row_of of a fault; a list's first block, since first_of is a tactic; lemmas that a definition would meet:
 # (start of the path, what stands before the name, old, new)
 IN_FILES = [
     ("crates/level/", r"(?<![A-Za-z0-9_.'\-])", "(?:row_of|rowOf)", "own_row"),
+    ("crates/tree/", r"(?<![A-Za-z0-9_.'\-])", "(?:first_of|firstOf)", "first_block"),
+    ("crates/history/", r"(?<![A-Za-z0-9_.'\-])", "put-back", "put_back_all"),
     ("crates/front/proofs/", r"(?<![A-Za-z0-9_.'\-])", "has_room", "room_left"),
     ("crates/oram/proofs/", r"(?<![A-Za-z0-9_.'\-])", "has_room", "room_left"),
 ]
@@ -99,12 +104,8 @@ def library():
 
 def by_recursion(text):
     """The library's All by recursion goes by the library's name for it: All is another of its words, and the gate takes no other use of it."""
-    out = []
-    for line in text.replace("AllByRecursion as All", "AllByRecursion").split("\n"):
-        if not line.lstrip().startswith(("--", "//")):
-            line = re.sub(r"(?<![A-Za-z0-9_'\-])All(?![A-Za-z0-9_'\-])", "AllByRecursion", line)
-        out.append(line)
-    return "\n".join(out)
+    text = text.replace("AllByRecursion as All", "AllByRecursion")
+    return re.sub(r"(?<![A-Za-z0-9_'\-])All(?![A-Za-z0-9_'\-])", "AllByRecursion", text)
 
 
 def join(parts, words):
@@ -154,14 +155,17 @@ def main(argv, first):
                 return t
             return new.get(t, t)
 
-        out = text
+        comments = []
+        mark = r"(?m)(?:^|(?<=\s))(?:--|//).*$" if p.endswith((".antt", ".rt")) else r"(?!)"
+        # comments stay as they are
+        text = re.sub(mark, lambda m: comments.append(m.group(0)) or "\x00", text)
         for start, before, a, b in IN_FILES:
             if first and p.startswith(start):
-                out = re.sub(before + a + r"(?![A-Za-z0-9_'\-])", b, out)
-        text = out
+                text = re.sub(before + a + r"(?![A-Za-z0-9_'\-])", b, text)
         out = TOKEN.sub(turn, text)
         if "AllByRecursion as All" in out:
             out = by_recursion(out)
+        out = re.sub("\x00", lambda m: comments.pop(0), out)
         if out != found:
             with open(p, "w", encoding="utf-8") as f:
                 f.write(out)

@@ -45,7 +45,7 @@ module _ (D : ℕ) (leaves : List ℕ) (before after : Row) (n new : ℕ) (arriv
     (is : IfSome arrives (λ b. (b.number.0 ≡ n) × (b.leaf.0 ≡ new)))
     (became : after ≡ second_half D arrives flushes (fetched D n (get_or leaves n 0) before)) where
   first : FirstHalf D leaves n new before
-  first = order_kept.first_half_lem D leaves n new before o l fits
+  first = order_kept.of_first_half D leaves n new before o l fits
 
   may : (a : Option Block) → IfSome a (λ b. (b.number.0 ≡ n) × (b.leaf.0 ≡ new)) → MayArrive (set leaves n new) n a
   may None h = tt
@@ -54,7 +54,7 @@ module _ (D : ℕ) (leaves : List ℕ) (before after : Row) (n new : ℕ) (arriv
   second : SecondHalf D (set leaves n new) n arrives flushes (fetched D n (get_or leaves n 0) before)
   second =
       let f = fewer n before.queue in
-      order_kept.second_half_lem D (set leaves n new) n arrives flushes (fetched D n (get_or leaves n 0) before) first.ordered
+      order_kept.of_second_half D (set leaves n new) n arrives flushes (fetched D n (get_or leaves n 0) before) first.ordered
       (rw (length-set leaves n new) l) first.gone (omega arith) (may arrives is)
 
   pub kept_order : InOrder D (set leaves n new) after

@@ -178,16 +178,16 @@ request_back R L M c cs l h = with_back (λ r. get_or (L r) 0 0) (λ r. get_or (
         ap (λ xs. get_or xs 0 0) (h ((0 + j) / request_share) (omega arith))
         ∙ ap (λ i. get_or c i 0) (let q : request_share * ((0 + j) / request_share) ≡ j = omega arith in q)
 
-pub put_back_lem : (R : ℕ) {k : ℕ} {ds es : List Deed} {cs : List (List ℕ)} → Paired R k ds es cs → (L M : ℕ → List ℕ)
+pub put_back_all : (R : ℕ) {k : ℕ} {ds es : List Deed} {cs : List (List ℕ)} → Paired R k ds es cs → (L M : ℕ → List ℕ)
     → ((r : ℕ) → r < R → M r ≡ leaves_in r cs) → replaced M (asked ds) (replaced L (asked es) cs) ≡ cs
-put_back_lem R begun L M h = refl
-put_back_lem R (both_rest c w) L M h = ap (λ l. c ∷ l) (put_back_lem R w (λ i. drop 1 (L i)) (λ i. drop 1 (M i)) (λ r b. ap (drop 1) (h r b)))
-put_back_lem R (both_open {cs = cs} c l w) L M h =
-    ap₂ ◌∷◌ (request_back R L M c cs l h) (put_back_lem R w (λ i. drop 1 (L i)) (λ i. drop 1 (M i)) (λ r b. ap (drop 1) (h r b)))
-put_back_lem R (both_ask {cs = cs} m n c p q l w) L M h =
-    ap₂ ◌∷◌ (request_back R L M c cs l h) (put_back_lem R w (λ i. drop 1 (L i)) (λ i. drop 1 (M i)) (λ r b. ap (drop 1) (h r b)))
-put_back_lem R (both_drain c w) L M h = ap (λ l. c ∷ l) (put_back_lem R w (λ i. drop 1 (L i)) (λ i. drop 1 (M i)) (λ r b. ap (drop 1) (h r b)))
-put_back_lem R (both_tear c w) L M h = ap (λ l. c ∷ l) (put_back_lem R w (λ i. drop 1 (L i)) (λ i. drop 1 (M i)) (λ r b. ap (drop 1) (h r b)))
+put_back_all R begun L M h = refl
+put_back_all R (both_rest c w) L M h = ap (λ l. c ∷ l) (put_back_all R w (λ i. drop 1 (L i)) (λ i. drop 1 (M i)) (λ r b. ap (drop 1) (h r b)))
+put_back_all R (both_open {cs = cs} c l w) L M h =
+    ap₂ ◌∷◌ (request_back R L M c cs l h) (put_back_all R w (λ i. drop 1 (L i)) (λ i. drop 1 (M i)) (λ r b. ap (drop 1) (h r b)))
+put_back_all R (both_ask {cs = cs} m n c p q l w) L M h =
+    ap₂ ◌∷◌ (request_back R L M c cs l h) (put_back_all R w (λ i. drop 1 (L i)) (λ i. drop 1 (M i)) (λ r b. ap (drop 1) (h r b)))
+put_back_all R (both_drain c w) L M h = ap (λ l. c ∷ l) (put_back_all R w (λ i. drop 1 (L i)) (λ i. drop 1 (M i)) (λ r b. ap (drop 1) (h r b)))
+put_back_all R (both_tear c w) L M h = ap (λ l. c ∷ l) (put_back_all R w (λ i. drop 1 (L i)) (λ i. drop 1 (M i)) (λ r b. ap (drop 1) (h r b)))
 
 -- the coins relabelled, of two runs that pair
 abbrev pub moved : List Deed → List Deed → List (List ℕ) → List (List ℕ)
@@ -201,7 +201,7 @@ moved_column R r h {k} {ds} {es} {cs} w =
 -- relabelling back is the inverse
 pub moved_back : (R : ℕ) {k : ℕ} {ds es : List Deed} {cs : List (List ℕ)} → Paired R k ds es cs → moved es ds (moved ds es cs) ≡ cs
 moved_back R {k} {ds} {es} {cs} w =
-    put_back_lem R w (λ r. row_given (numbers_in r (asked ds)) (numbers_in r (asked es)) (leaves_in r cs))
+    put_back_all R w (λ r. row_given (numbers_in r (asked ds)) (numbers_in r (asked es)) (leaves_in r cs))
     (λ r. row_given (numbers_in r (asked es)) (numbers_in r (asked ds)) (leaves_in r (moved ds es cs)))
     (λ r h. ap (row_given (numbers_in r (asked es)) (numbers_in r (asked ds))) (moved_column R r h w) ∙ row_back (row_of R r w))
 

@@ -53,12 +53,12 @@ module _ (D : ℕ) (below below' : List ℕ) (rows rows' : List MapRow) (before 
       ∙ mod-eq_of_lt (All-get_or (λ m. m < 2 ^ D) below j 0 l_page o.leaves_fit)
 
   first : FirstHalf D below j (get_or coins 0 0) before
-  first = order_kept.first_half_lem D below j (get_or coins 0 0) before o l_page fits
+  first = order_kept.of_first_half D below j (get_or coins 0 0) before o l_page fits
 
   second : SecondHalf D (set below j (get_or coins 0 0)) j (Some done.page) (get_or coins 1 0 ∷ get_or coins 2 0 ∷ []) middle
   second =
       let f = fewer j before.queue in
-      order_kept.second_half_lem D (set below j (get_or coins 0 0)) j (Some done.page) _ middle first.ordered
+      order_kept.of_second_half D (set below j (get_or coins 0 0)) j (Some done.page) _ middle first.ordered
       (rw (length-set below j (get_or coins 0 0)) l_page) first.gone (omega arith)
       (done.number, done.leaf ∙ sym (get_or-set_same below j (get_or coins 0 0) 0 l_page))
 

@@ -30,9 +30,9 @@ Ok p = empty_or_block p ≡ true
 block_ok : (b : Block) → Ok (place_for b)
 block_ok b = or_right (is_empty (place_for b)) _ (ap not (ne_eqb (b.number.0 + 1) 0 (λ z. omega arith)))
 
-first_half_lem : (D : ℕ) (leaves : List ℕ) (i new : ℕ) (row : Row) → InOrder D leaves row → i < length leaves → new < 2 ^ D
+of_first_half : (D : ℕ) (leaves : List ℕ) (i new : ℕ) (row : Row) → InOrder D leaves row → i < length leaves → new < 2 ^ D
     → FirstHalf D leaves i new row
-first_half_lem D leaves i new row o l fits =
+of_first_half D leaves i new row o l fits =
     let e = fetched_blocks D leaves row o i in
     record {
       ordered = record {
@@ -71,7 +71,7 @@ module _ (D : ℕ) (leaves : List ℕ) (ms : List ℕ) (row : Row) (o : InOrder 
   dequeues_ordered : InOrder D leaves (dequeued_all D ms row)
   dequeues_ordered =
       reordered (row_blocks row) o.distinct (dequeued_all D ms row) (steps_rearrange.dequeues D ms row) D leaves
-      (dequeues_every Ok refl block_ok D ms row o.whole) (steps_keep_placed.second_half_lem D None ms row tt o.placed)
+      (dequeues_every Ok refl block_ok D ms row o.whole) (steps_keep_placed.of_second_half D None ms row tt o.placed)
       o.counted o.known o.leaves_fit
 
   dequeues_hold : (j : ℕ) → content j (dequeued_all D ms row) ≡ content j row
@@ -118,16 +118,16 @@ module _ (D : ℕ) (leaves : List ℕ) (i : ℕ) (b : Block) (row : Row) (o : In
       ∙ ap (option_map (λ x. x.words))
       (cond-false (numbered j b) (Some b) (block_of j (row_blocks row)) (ne_eqb _ _ (λ e. n (sym e ∙ may.0))))
 
-second_half_lem : (D : ℕ) (leaves : List ℕ) (i : ℕ) (arrives : Option Block) (flushes : List ℕ) (row : Row)
+of_second_half : (D : ℕ) (leaves : List ℕ) (i : ℕ) (arrives : Option Block) (flushes : List ℕ) (row : Row)
     → InOrder D leaves row → i < length leaves → content i row ≡ None → length row.queue < capacity
     → MayArrive leaves i arrives → SecondHalf D leaves i arrives flushes row
-second_half_lem D leaves i None ms row o l gone room may =
+of_second_half D leaves i None ms row o l gone room may =
     record {
       ordered = dequeues_ordered D leaves ms row o;
       holds = dequeues_hold D leaves ms row o i ∙ gone;
       same = λ j _. dequeues_hold D leaves ms row o j;
     }
-second_half_lem D leaves i (Some b) ms row o l gone room may =
+of_second_half D leaves i (Some b) ms row o l gone room may =
     let new = arrived_ordered D leaves i b row o l gone room may in
     record {
       ordered = dequeues_ordered D leaves ms (arriving (Some b) row) new;
@@ -170,8 +170,8 @@ order_kept =
     record {
       cleared = cleared;
       cleared_holds = λ i count. ap (λ bs. option_map (λ b. b.words) (block_of i bs)) (no_blocks count);
-      first_half_lem = first_half_lem;
-      second_half_lem = second_half_lem;
+      of_first_half = of_first_half;
+      of_second_half = of_second_half;
       drain = λ D m leaves row o. dequeues_ordered D leaves (m ∷ []) row o;
       drain_holds = λ D m leaves row o. dequeues_hold D leaves (m ∷ []) row o;
       never_full = never_full;

@@ -130,23 +130,23 @@ put_back_from_lem D bs (b ∷ rest) held w = at (entry_place b (bucket bs 1))
           waiting = w.1;
         }
 
-put_back_lem : (D : ℕ) (row : Row) → Placed D row → Placed D (put_back row)
-put_back_lem D row h = put_back_from_lem D row.buckets row.queue h.tree h.waiting
+of_put_back : (D : ℕ) (row : Row) → Placed D row → Placed D (put_back row)
+of_put_back D row h = put_back_from_lem D row.buckets row.queue h.tree h.waiting
 
 flush : (D m : ℕ) (row : Row) → Placed D row → Placed D (flushed D m row)
 flush D m row h = record { tree = flushed-held D m row.buckets D (omega arith) h.tree; waiting = h.waiting }
 
 dequeues : (D : ℕ) (ms : List ℕ) (row : Row) → Placed D row → Placed D (dequeued_all D ms row)
 dequeues D [] row h = h
-dequeues D (m ∷ ms) row h = dequeues D ms (dequeued D m row) (flush D m (put_back row) (put_back_lem D row h))
+dequeues D (m ∷ ms) row h = dequeues D ms (dequeued D m row) (flush D m (put_back row) (of_put_back D row h))
 
 pub steps_keep_placed : StepsKeepPlaced
 steps_keep_placed =
     record {
       fetch = fetch;
       arrive = arrive;
-      put_back_lem = put_back_lem;
+      of_put_back = of_put_back;
       flush = flush;
-      dequeue = λ D m row h. flush D m (put_back row) (put_back_lem D row h);
-      second_half_lem = λ D b ms row l h. dequeues D ms (arriving b row) (arrive D b row l h);
+      dequeue = λ D m row h. flush D m (put_back row) (of_put_back D row h);
+      of_second_half = λ D b ms row l h. dequeues D ms (arriving b row) (arrive D b row l h);
     }

@@ -128,18 +128,18 @@ flushed_rearranges D m bs zero l = Permᴰ.refl (flat_map blocks_in bs)
 flushed_rearranges D m bs (suc k) l =
     Permᴰ.trans (flushed_rearranges D m bs k (omega arith)) (moved_rearranges D m (flushed_to D m bs k) k l)
 
-put_back_lem : (row : Row) → Permᴰ (row_blocks row) (row_blocks (put_back row))
-put_back_lem row = put_back_rearranges row.buckets row.queue
+of_put_back : (row : Row) → Permᴰ (row_blocks row) (row_blocks (put_back row))
+of_put_back row = put_back_rearranges row.buckets row.queue
 
 flush : (D m : ℕ) (row : Row) → Permᴰ (row_blocks row) (row_blocks (flushed D m row))
 flush D m row = Permᴰ.append_left row.queue (flushed_rearranges D m row.buckets D (omega arith))
 
 dequeue : (D m : ℕ) (row : Row) → Permᴰ (row_blocks row) (row_blocks (dequeued D m row))
-dequeue D m row = Permᴰ.trans (put_back_lem row) (flush D m (put_back row))
+dequeue D m row = Permᴰ.trans (of_put_back row) (flush D m (put_back row))
 
 dequeues : (D : ℕ) (ms : List ℕ) (row : Row) → Permᴰ (row_blocks row) (row_blocks (dequeued_all D ms row))
 dequeues D [] row = Permᴰ.refl (row_blocks row)
 dequeues D (m ∷ ms) row = Permᴰ.trans (dequeue D m row) (dequeues D ms (dequeued D m row))
 
 pub steps_rearrange : StepsRearrange
-steps_rearrange = record { put_back_lem = put_back_lem; flush = flush; dequeue = dequeue; dequeues = dequeues }
+steps_rearrange = record { of_put_back = of_put_back; flush = flush; dequeue = dequeue; dequeues = dequeues }

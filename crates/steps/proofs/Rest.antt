@@ -41,7 +41,7 @@ pub steps_leave_the_rest : StepsLeaveTheRest
 steps_leave_the_rest =
     record {
       fetch = λ D n m row v off. cleared_rest D n m row.buckets v off.0 (suc D) (λ d l. off.1 d (omega arith));
-      put_back_lem = λ row v h. put_back_rest row.buckets row.queue v h;
+      of_put_back = λ row v h. put_back_rest row.buckets row.queue v h;
       flush = λ D m row v off. flushed_rest D m row.buckets v off D (omega arith);
       dequeue = λ D m row v h off.
           flushed_rest D m (put_back row).buckets v off D (omega arith)

@@ -76,8 +76,8 @@ steps_keep_shape =
     record {
       fetch = λ D n m row. keeps row _ (sizes_cleared D n m row.buckets (suc D));
       arrive = λ b row. keeps row _ (sizes_arriving b row);
-      put_back_lem = λ row. keeps row _ (sizes_put_back row.buckets row.queue);
+      of_put_back = λ row. keeps row _ (sizes_put_back row.buckets row.queue);
       flush = λ D m row. keeps row _ (sizes_flushed D m row.buckets D);
       dequeue = λ D m row. keeps row _ (sizes_dequeued D m row);
-      second_half_lem = λ D b ms row. keeps row _ (sizes_dequeues D ms (arriving b row) ∙ sizes_arriving b row);
+      of_second_half = λ D b ms row. keeps row _ (sizes_dequeues D ms (arriving b row) ∙ sizes_arriving b row);
     }

@@ -42,10 +42,10 @@ pub record KeepsShape (before after : Row) : Type 0 where
 pub record StepsKeepShape : Type 0 where
   pub fetch : (D n m : ℕ) (row : Row) → KeepsShape row (fetched D n m row)
   pub arrive : (b : Option Block) (row : Row) → KeepsShape row (arriving b row)
-  pub put_back_lem : (row : Row) → KeepsShape row (put_back row)
+  pub of_put_back : (row : Row) → KeepsShape row (put_back row)
   pub flush : (D m : ℕ) (row : Row) → KeepsShape row (flushed D m row)
   pub dequeue : (D m : ℕ) (row : Row) → KeepsShape row (dequeued D m row)
-  pub second_half_lem : (D : ℕ) (b : Option Block) (ms : List ℕ) (row : Row) → KeepsShape row (second_half D b ms row)
+  pub of_second_half : (D : ℕ) (b : Option Block) (ms : List ℕ) (row : Row) → KeepsShape row (second_half D b ms row)
 
 -- A fetch takes out exactly the blocks of that number on the path and in the queue, and answers the first of them.
 pub record FetchTakes (D n m : ℕ) (row : Row) : Type 0 where
@@ -59,7 +59,7 @@ FetchTakesExactly = (D n m : ℕ) (row : Row) → FetchTakes D n m row
 
 -- Put-back and flush lose nothing and double nothing: the row's blocks are a rearrangement.
 pub record StepsRearrange : Type 0 where
-  pub put_back_lem : (row : Row) → Permᴰ (row_blocks row) (row_blocks (put_back row))
+  pub of_put_back : (row : Row) → Permᴰ (row_blocks row) (row_blocks (put_back row))
   pub flush : (D m : ℕ) (row : Row) → Permᴰ (row_blocks row) (row_blocks (flushed D m row))
   pub dequeue : (D m : ℕ) (row : Row) → Permᴰ (row_blocks row) (row_blocks (dequeued D m row))
   pub dequeues : (D : ℕ) (ms : List ℕ) (row : Row) → Permᴰ (row_blocks row) (row_blocks (dequeued_all D ms row))
@@ -69,10 +69,10 @@ pub record StepsKeepPlaced : Type 0 where
   pub fetch : (D n m : ℕ) (row : Row) → Placed D row → Placed D (fetched D n m row)
   pub arrive : (D : ℕ) (b : Option Block) (row : Row) → IfSome b (λ x. x.leaf.0 < 2 ^ D) → Placed D row
       → Placed D (arriving b row)
-  pub put_back_lem : (D : ℕ) (row : Row) → Placed D row → Placed D (put_back row)
+  pub of_put_back : (D : ℕ) (row : Row) → Placed D row → Placed D (put_back row)
   pub flush : (D m : ℕ) (row : Row) → Placed D row → Placed D (flushed D m row)
   pub dequeue : (D m : ℕ) (row : Row) → Placed D row → Placed D (dequeued D m row)
-  pub second_half_lem : (D : ℕ) (b : Option Block) (ms : List ℕ) (row : Row) → IfSome b (λ x. x.leaf.0 < 2 ^ D)
+  pub of_second_half : (D : ℕ) (b : Option Block) (ms : List ℕ) (row : Row) → IfSome b (λ x. x.leaf.0 < 2 ^ D)
       → Placed D row → Placed D (second_half D b ms row)
 
 -- Off the path nothing changes.
@@ -81,7 +81,7 @@ OffPath D m v = (1 ≤ v) × ((d : ℕ) → d ≤ D → path D m d ≢ v)
 
 pub record StepsLeaveTheRest : Type 0 where
   pub fetch : (D n m : ℕ) (row : Row) (v : ℕ) → OffPath D m v → bucket (fetched D n m row).buckets v ≡ bucket row.buckets v
-  pub put_back_lem : (row : Row) (v : ℕ) → 2 ≤ v → bucket (put_back row).buckets v ≡ bucket row.buckets v
+  pub of_put_back : (row : Row) (v : ℕ) → 2 ≤ v → bucket (put_back row).buckets v ≡ bucket row.buckets v
   pub flush : (D m : ℕ) (row : Row) (v : ℕ) → OffPath D m v → bucket (flushed D m row).buckets v ≡ bucket row.buckets v
   pub dequeue : (D m : ℕ) (row : Row) (v : ℕ) → m < 2 ^ D → OffPath D m v
       → bucket (dequeued D m row).buckets v ≡ bucket row.buckets v

@@ -62,9 +62,9 @@ pub record OrderKept : Type 0 where
   -- a cleared store with an empty queue is in order, with n zeros for leaves, and holds nothing
   pub cleared : (D n count : ℕ) → InOrder D (replicate n 0) (cleared_row count)
   pub cleared_holds : (i count : ℕ) → content i (cleared_row count) ≡ None
-  pub first_half_lem : (D : ℕ) (leaves : List ℕ) (i new : ℕ) (row : Row) → InOrder D leaves row → i < length leaves → new < 2 ^ D
+  pub of_first_half : (D : ℕ) (leaves : List ℕ) (i new : ℕ) (row : Row) → InOrder D leaves row → i < length leaves → new < 2 ^ D
       → FirstHalf D leaves i new row
-  pub second_half_lem : (D : ℕ) (leaves : List ℕ) (i : ℕ) (arrives : Option Block) (flushes : List ℕ) (row : Row)
+  pub of_second_half : (D : ℕ) (leaves : List ℕ) (i : ℕ) (arrives : Option Block) (flushes : List ℕ) (row : Row)
       → InOrder D leaves row → i < length leaves → content i row ≡ None → length row.queue < capacity
       → MayArrive leaves i arrives → SecondHalf D leaves i arrives flushes row
   -- a dequeue alone changes nothing that is held

@@ -52,7 +52,7 @@ pub entry_counts : EntryCounts
 entry_counts =
     record {
       fetch = fetch_long;
-      put_back_lem = refl;
+      of_put_back = refl;
       flush = flush_long;
       dequeue = dequeue_long;
       request = request_long;

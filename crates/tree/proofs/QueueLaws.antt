@@ -4,7 +4,7 @@ use Rattle.std.proofs.lemmas.List.{append-nil, append_assoc, length-append, leng
 use Rattle.std.proofs.lemmas.Bool.{both_ways, not-true, not_from_false, not_from_true, and_parts, and_from, and_left, and_right, or_parts, or_from, or_left, or_right, le-ltb, lt-ltb, eqb-true, eqb-false, eq-eqb, cond-true, cond-false, cases_lt}
 use Rattle.tree.specs.declared.block.Block.{Block}
 use Rattle.tree.specs.declared.queue.Queue.{Queue}
-use Rattle.tree.specs.Blocks.{numbered, has_number, apart, block_of, others, first_of, rest_of, FirstAt, lacking, closed_up, accepts}
+use Rattle.tree.specs.Blocks.{numbered, has_number, apart, block_of, others, first_block, rest_of, FirstAt, lacking, closed_up, accepts}
 use Rattle.tree.specs.Queues.{queued}
 
 -- A search for a number.
@@ -169,7 +169,7 @@ moved_end w i k bs n h l =
 
 -- The front of a queue.
 
-pub first_at : (n : ℕ) (bs : List Block) (d : Block) → 0 < n → 0 < length bs → Some (get_or bs 0 d) ≡ first_of (take n bs)
+pub first_at : (n : ℕ) (bs : List Block) (d : Block) → 0 < n → 0 < length bs → Some (get_or bs 0 d) ≡ first_block (take n bs)
 first_at n [] d h l = absurd (omega arith)
 first_at zero (b ∷ bs) d h l = absurd (omega arith)
 first_at (suc n) (b ∷ bs) d h l = refl

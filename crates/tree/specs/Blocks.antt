@@ -39,9 +39,9 @@ abbrev pub arrived : Block → List Block → List Block
 arrived b bs = cond (accepts b bs) (bs ++ b ∷ []) bs
 
 -- the first block of the list
-abbrev pub first_of : List Block → Option Block
-first_of [] = None
-first_of (b ∷ bs) = Some b
+abbrev pub first_block : List Block → Option Block
+first_block [] = None
+first_block (b ∷ bs) = Some b
 
 -- the list without its first block
 abbrev pub rest_of : List Block → List Block

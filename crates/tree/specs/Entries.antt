@@ -64,7 +64,7 @@ moves_of Drain D = drain_moves D
 -- the lengths of the prescribed lists, for every depth and whatever the leaves
 pub record EntryCounts : Type 0 where
   pub fetch : (D m : ℕ) → length (fetch_entries D m) ≡ 2 * D + 2
-  pub put_back_lem : length put_back_entries ≡ 2
+  pub of_put_back : length put_back_entries ≡ 2
   pub flush : (D m : ℕ) → length (flush_entries D m) ≡ 2 * D + 2
   pub dequeue : (D m : ℕ) → length (dequeue_entries D m) ≡ 2 * D + 4
   pub request : (D shown : ℕ) (flushes : List ℕ) → length flushes ≡ dequeues_per_request

@@ -1,6 +1,6 @@
 // What a queue answers and how blocks come and go. A change makes a whole new queue: the old one is given up for it.
 ghost use Rattle.std.specs.Prelude.{◌≡◌, ◌<◌, ◌≤◌, true, false, [], ◌∷◌, ◌++◌, length, MatchResult, ◌==◌};
-ghost use Rattle.tree.specs.Blocks.{FirstAt, accepts, block_of, capacity, closed_up, first_of, lacking, others, rest_of};
+ghost use Rattle.tree.specs.Blocks.{FirstAt, accepts, block_of, capacity, closed_up, first_block, lacking, others, rest_of};
 ghost use Rattle.tree.specs.Queues.{QueueLaw, queued};
 
 use crate::block::Block;
@@ -47,7 +47,7 @@ impl Queue {
 
     // The block that has waited longest.
     pub fn first(&self) -> Option<Block>
-        ensures { result ≡ first_of (queued self.now) }
+        ensures { result ≡ first_block (queued self.now) }
     {
         if self.count == 0 {
             return None;
