@@ -4,7 +4,9 @@ ghost use Rattle.front.specs.Fronts.{fit_up_to, front_unfit, own};
 ghost use Rattle.posmap.specs.Faults.{last_row, level_number, level_row};
 ghost use Rattle.posmap.specs.Maps.{card_of, leaf_numbers, naming, unless};
 
-use posmap::fault::{CardFault, LevelFault};
+use card::cause::Cause;
+use card::fault::CardFault;
+use posmap::fault::LevelFault;
 use posmap::interface::PositionMap;
 use row::trial::is_fit;
 use store::interface::BucketStore;
@@ -40,7 +42,7 @@ pub fn fitness<S: BucketStore, P: PositionMap>(
     ensures { card_of (level_number P.Fault.CardFault.number_of) (level_row P.Fault.CardFault.row_of) result ≡ naming 1 (front_unfit (fit_up_to most depth (length (S.BucketStore.buckets store.now)) (length (P.PositionMap.leaves below.now)) (length (P.PositionMap.rows below.now))) (P.PositionMap.unfit below.now)) }
 {
     if let Err(fault) = below.trial_drain(&[]) {
-        if fault.number() == 1 {
+        if fault.cause() == Cause::Unfit {
             return Err(LevelFault::from(fault));
         }
     }

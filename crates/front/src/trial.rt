@@ -5,7 +5,9 @@ ghost use Rattle.posmap.specs.Faults.{level_number, level_row};
 ghost use Rattle.posmap.specs.Maps.{card_of, coins_per_drain, coins_per_request, leaf_numbers};
 ghost use Rattle.tree.specs.Queues.{queued};
 
-use posmap::fault::{CardFault, LevelFault};
+use card::cause::Cause;
+use card::fault::CardFault;
+use posmap::fault::LevelFault;
 use posmap::interface::PositionMap;
 use store::interface::BucketStore;
 use tree::numbers::{Leaf, RecordNumber};
@@ -25,8 +27,8 @@ fn first_of<F: CardFault + Drop>(
     let Err(mine) = own else {
         return Err(LevelFault::from(fault));
     };
-    let number = fault.number();
-    if number == 1 || number < mine.number() {
+    let cause = fault.cause();
+    if cause == Cause::Unfit || cause < mine.cause() {
         return Err(LevelFault::from(fault));
     }
     Err(mine)

@@ -1,6 +1,6 @@
 // What the tests share.
 use level::level::Level;
-use posmap::fault::CardFault;
+use card::fault::CardFault;
 use posmap::flat::FlatMap;
 use std::alloc::{AllocError, Global};
 use store::journal::JournalStore;

@@ -1,6 +1,6 @@
 -- A fault that is passed up keeps its place on the card.
 use Rattle.std.proofs.Common.{◌≡◌, ℕ, Some, None, Err, Result, ap, ◌∙◌, arith}
-use Rattle.posmap.specs.declared.fault.CardFault.{Ghosts as CardMeaning}
+use Rattle.card.specs.declared.fault.CardFault.{Ghosts as CardMeaning}
 use Rattle.posmap.specs.declared.fault.LevelFault.{LevelFault}
 use Rattle.posmap.specs.Faults.{level_number, level_row}
 use Rattle.posmap.specs.Maps.{Card}

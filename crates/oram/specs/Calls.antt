@@ -5,7 +5,7 @@ use Rattle.steps.specs.Order.{content}
 use Rattle.steps.specs.Steps.{dequeued, fetched, second_half}
 use Rattle.record.specs.declared.kind.RecordKind.{Ghosts as KindMeaning}
 use Rattle.store.specs.declared.interface.BucketStore.{Ghosts as StoreMeaning}
-use Rattle.posmap.specs.declared.fault.CardFault.{Ghosts as CardMeaning}
+use Rattle.card.specs.declared.fault.CardFault.{Ghosts as CardMeaning}
 use Rattle.posmap.specs.declared.interface.PositionMap.{Ghosts as MapMeaning}
 use Rattle.posmap.specs.Maps.{Card, MapRow, SameFrame, coins_per_drain, coins_per_request, drain_refusal, naming, or_else, row_swapped, rows_drained, rows_swapped, rows_torn, swap_refusal, unless}
 use Rattle.front.specs.Fronts.{own}

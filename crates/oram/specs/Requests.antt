@@ -4,7 +4,7 @@ use Rattle.std.specs.Option.{option_or}
 use Rattle.steps.specs.Order.{content}
 use Rattle.record.specs.declared.kind.RecordKind.{Ghosts as KindMeaning}
 use Rattle.store.specs.declared.interface.BucketStore.{Ghosts as StoreMeaning}
-use Rattle.posmap.specs.declared.fault.CardFault.{Ghosts as CardMeaning}
+use Rattle.card.specs.declared.fault.CardFault.{Ghosts as CardMeaning}
 use Rattle.posmap.specs.declared.interface.PositionMap.{Ghosts as MapMeaning}
 use Rattle.posmap.specs.Maps.{Card, card_of}
 use Rattle.oram.specs.declared.fault.OramFault.{OramFault}

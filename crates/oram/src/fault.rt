@@ -3,10 +3,12 @@ ghost use Rattle.oram.specs.Faults.{SameCard, oram_number, oram_row};
 ghost use Rattle.oram.specs.declared.fault.OramFault.TheVariants.{Below};
 ghost use Rattle.std.specs.Prelude.{◌≡◌};
 
-use posmap::fault::{CardFault, LevelFault};
+use card::cause::Cause;
+use card::fault::CardFault;
+use posmap::fault::LevelFault;
 
 // What an Oram refuses by itself, and what the map below it refuses, held whole.
-#[derive(Clone, Copy, Drop)]
+#[derive(Clone, Copy, PartialEq, Eq, Debug, Drop)]
 pub enum OramFault<F> {
     // A row cannot work: the Oram's own.
     Unfit,
@@ -35,18 +37,18 @@ impl<F: CardFault> CardFault for OramFault<F> {
 
     ghost row_of = { oram_row F.CardFault.row_of };
 
-    fn number(&self) -> u8 {
+    fn cause(&self) -> Cause {
         match self {
-            OramFault::Unfit => 1,
-            OramFault::NoNumber => 2,
-            OramFault::NotOpened => 3,
-            OramFault::AllOpened => 4,
-            OramFault::WrongCoins => 5,
-            OramFault::NoLeaf => 6,
-            OramFault::LogFull => 7,
-            OramFault::QueueFull => 8,
-            OramFault::NoEntry(_) => 10,
-            OramFault::Below(fault) => fault.number(),
+            OramFault::Unfit => Cause::Unfit,
+            OramFault::NoNumber => Cause::NoNumber,
+            OramFault::NotOpened => Cause::NotOpened,
+            OramFault::AllOpened => Cause::AllOpened,
+            OramFault::WrongCoins => Cause::WrongCoins,
+            OramFault::NoLeaf => Cause::NoLeaf,
+            OramFault::LogFull => Cause::LogFull,
+            OramFault::QueueFull => Cause::QueueFull,
+            OramFault::NoEntry(_) => Cause::NoEntry,
+            OramFault::Below(fault) => fault.cause(),
         }
     }
 

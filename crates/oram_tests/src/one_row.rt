@@ -1,6 +1,6 @@
 // Two records in one row of depth 1: bucket 2 is leaf 0, bucket 3 leaf 1.
 use oram::oram::Oram;
-use posmap::fault::CardFault;
+use card::fault::CardFault;
 use posmap::flat::FlatMap;
 use record::calibration::CalibrationRecord;
 use std::alloc::{AllocError, Global};

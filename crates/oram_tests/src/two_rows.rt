@@ -1,7 +1,7 @@
 // Eight records in a row of depth 3, over a level of depth 1 that holds their leaves on one page.
 use level::level::Level;
 use oram::oram::Oram;
-use posmap::fault::CardFault;
+use card::fault::CardFault;
 use posmap::flat::FlatMap;
 use record::calibration::CalibrationRecord;
 use std::alloc::{AllocError, Global};

@@ -1,23 +1,13 @@
 // Why a map refuses a call: each fault has a number and a row on the card of refusals.
-ghost use Rattle.std.specs.Prelude.{◌≡◌, ℕ};
+ghost use Rattle.std.specs.Prelude.{◌≡◌};
 ghost use Rattle.posmap.specs.Faults.{flat_number, flat_row, level_number, level_row};
 ghost use Rattle.posmap.specs.declared.fault.LevelFault.TheVariants.{Below};
 
-// A fault by its number and its row.
-pub trait CardFault {
-    ghost number_of: { Self → ℕ };
-
-    ghost row_of: { Self → ℕ };
-
-    fn number(&self) -> u8
-        ensures { result ≡ number_of self.now };
-
-    fn row(&self) -> u8
-        ensures { result ≡ row_of self.now };
-}
+use card::cause::Cause;
+use card::fault::CardFault;
 
 // What a flat map refuses. It has no row of its own, so only a question about an entry names one.
-#[derive(Clone, Copy)]
+#[derive(Clone, Copy, PartialEq, Eq, Debug)]
 pub enum FlatFault {
     NoNumber,
     WrongCoins,
@@ -30,25 +20,25 @@ impl CardFault for FlatFault {
 
     ghost row_of = { flat_row };
 
-    fn number(&self) -> u8 {
+    fn cause(&self) -> Cause {
         match self {
-            FlatFault::NoNumber => 2,
-            FlatFault::WrongCoins => 5,
-            FlatFault::WideLeaf => 6,
-            FlatFault::NoEntry(_) => 10,
+            FlatFault::NoNumber => Cause::NoNumber,
+            FlatFault::WrongCoins => Cause::WrongCoins,
+            FlatFault::WideLeaf => Cause::NoLeaf,
+            FlatFault::NoEntry(_) => Cause::NoEntry,
         }
     }
 
     fn row(&self) -> u8 {
         match self {
-            FlatFault::NoNumber | FlatFault::WrongCoins | FlatFault::WideLeaf => 0,
             FlatFault::NoEntry(row) => *row,
+            _ => 0,
         }
     }
 }
 
 // What a level refuses by itself, and what the map below it refuses, held whole.
-#[derive(Clone, Copy, Drop)]
+#[derive(Clone, Copy, PartialEq, Eq, Debug, Drop)]
 pub enum LevelFault<F> {
     Unfit,
     NoNumber,
@@ -65,16 +55,16 @@ impl<F: CardFault> CardFault for LevelFault<F> {
 
     ghost row_of = { level_row F.CardFault.row_of };
 
-    fn number(&self) -> u8 {
+    fn cause(&self) -> Cause {
         match self {
-            LevelFault::Unfit => 1,
-            LevelFault::NoNumber => 2,
-            LevelFault::WrongCoins => 5,
-            LevelFault::NoLeaf => 6,
-            LevelFault::LogFull => 7,
-            LevelFault::QueueFull => 8,
-            LevelFault::NoEntry(_) => 10,
-            LevelFault::Below(fault) => fault.number(),
+            LevelFault::Unfit => Cause::Unfit,
+            LevelFault::NoNumber => Cause::NoNumber,
+            LevelFault::WrongCoins => Cause::WrongCoins,
+            LevelFault::NoLeaf => Cause::NoLeaf,
+            LevelFault::LogFull => Cause::LogFull,
+            LevelFault::QueueFull => Cause::QueueFull,
+            LevelFault::NoEntry(_) => Cause::NoEntry,
+            LevelFault::Below(fault) => fault.cause(),
         }
     }
 

@@ -2,7 +2,7 @@
 ghost use Rattle.std.specs.Prelude.{◌≡◌, ℕ, min, true, List, length, replicate, is_err, IfOk, None, Option, OnOk, slice_index};
 ghost use Rattle.posmap.specs.Maps.{DrainDone, MapFacts, MapRow, SameFrame, SameMeaning, SwapDone, card_of, drain_refusal, entry_refusal, leaf_numbers, row_at, rows_torn, rows_zeroed, swap_refusal};
 
-use crate::fault::CardFault;
+use card::fault::CardFault;
 use tree::numbers::{BucketNumber, Leaf, RecordNumber};
 
 // Within this trait a log can only grow: what works a request is bounded by it alone, and so cannot take an entry back.

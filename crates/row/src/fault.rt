@@ -1,6 +1,8 @@
 // Why a step of a row is refused.
 ghost use Rattle.row.specs.Faults.{number_of, row_of};
-ghost use Rattle.std.specs.Prelude.{◌≡◌};
+
+use card::cause::Cause;
+use card::fault::CardFault;
 
 #[derive(Clone, Copy, PartialEq, Eq, Debug)]
 pub enum RowFault {
@@ -14,25 +16,22 @@ pub enum RowFault {
     QueueFull,
 }
 
-impl RowFault {
-    // The fault's number on the card of refusals.
-    pub fn number(self) -> u8
-        ensures { result ≡ number_of self }
-    {
+impl CardFault for RowFault {
+    ghost number_of = { number_of };
+
+    ghost row_of = { row_of };
+
+    fn cause(&self) -> Cause {
         match self {
-            RowFault::Unfit => 1,
-            RowFault::NoLeaf => 6,
-            RowFault::LogFull => 7,
-            RowFault::QueueFull => 8,
+            RowFault::Unfit => Cause::Unfit,
+            RowFault::NoLeaf => Cause::NoLeaf,
+            RowFault::LogFull => Cause::LogFull,
+            RowFault::QueueFull => Cause::QueueFull,
         }
     }
 
-    // The row that the fault names: a row by itself is row 0.
-    pub fn row(self) -> u8
-        ensures { result ≡ row_of self }
-    {
-        match self {
-            RowFault::Unfit | RowFault::NoLeaf | RowFault::LogFull | RowFault::QueueFull => 0,
-        }
+    // A row by itself is row 0.
+    fn row(&self) -> u8 {
+        0
     }
 }

@@ -1,3 +1,4 @@
+use card::fault::CardFault;
 use crate::setup::{block, log_is, zeros};
 use row::fault::RowFault;
 use row::fetching::fetch;

@@ -1,7 +1,7 @@
 -- Lists of calls, coins and answers, oldest first, as runs and histories know them.
 use Rattle.std.specs.Prelude.{◌≡◌, ℕ, List, [], ◌∷◌, map, reverse, vec_items, Option, Result, Vec}
 use Rattle.tree.specs.declared.numbers.Leaf.{Leaf}
-use Rattle.posmap.specs.declared.fault.CardFault.{Ghosts as CardMeaning}
+use Rattle.card.specs.declared.fault.CardFault.{Ghosts as CardMeaning}
 use Rattle.posmap.specs.Maps.{leaf_numbers}
 use Rattle.history.specs.Histories as history
 use Rattle.oram.specs.declared.fault.OramFault.{OramFault}

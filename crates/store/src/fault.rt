@@ -1,6 +1,8 @@
 // Why a store refuses a call.
 ghost use Rattle.store.specs.Faults.{number_of, row_of};
-ghost use Rattle.std.specs.Prelude.{◌≡◌};
+
+use card::cause::Cause;
+use card::fault::CardFault;
 
 #[derive(Clone, Copy, PartialEq, Eq, Debug)]
 pub enum StoreFault {
@@ -12,24 +14,21 @@ pub enum StoreFault {
     NoEntry,
 }
 
-impl StoreFault {
-    // The fault's number on the card of refusals.
-    pub fn number(self) -> u8
-        ensures { result ≡ number_of self }
-    {
+impl CardFault for StoreFault {
+    ghost number_of = { number_of };
+
+    ghost row_of = { row_of };
+
+    fn cause(&self) -> Cause {
         match self {
-            StoreFault::Full => 7,
-            StoreFault::NoBucket => 9,
-            StoreFault::NoEntry => 10,
+            StoreFault::Full => Cause::LogFull,
+            StoreFault::NoBucket => Cause::NoBucket,
+            StoreFault::NoEntry => Cause::NoEntry,
         }
     }
 
-    // The row that the fault names: a store by itself is row 0.
-    pub fn row(self) -> u8
-        ensures { result ≡ row_of self }
-    {
-        match self {
-            StoreFault::Full | StoreFault::NoBucket | StoreFault::NoEntry => 0,
-        }
+    // A store by itself is row 0.
+    fn row(&self) -> u8 {
+        0
     }
 }

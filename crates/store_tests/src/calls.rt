@@ -1,4 +1,5 @@
 // Calls as values, so that one list of them drives any store.
+use card::fault::CardFault;
 use std::alloc::AllocError;
 use store::copy::rewrite_bucket;
 use store::fault::StoreFault;

@@ -1,4 +1,5 @@
 // The edges: counts of buckets and entries, the last bucket and the one past it, a full log.
+use card::fault::CardFault;
 use crate::calls::refused;
 use std::process::Abort;
 use std::test::Fail;

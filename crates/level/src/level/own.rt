@@ -8,7 +8,9 @@ ghost use Rattle.tree.specs.Paths.{is_depth};
 ghost use Rattle.tree.specs.Queues.{queued};
 
 use crate::level::Level;
-use posmap::fault::{CardFault, LevelFault};
+use card::cause::Cause;
+use card::fault::CardFault;
+use posmap::fault::LevelFault;
 use posmap::interface::PositionMap;
 use record::page::LEAVES_PER_PAGE;
 use store::interface::BucketStore;
@@ -36,8 +38,8 @@ pub(crate) fn first_of<F: CardFault + Drop>(
     let Err(mine) = own else {
         return Err(LevelFault::Below(fault));
     };
-    let number = fault.number();
-    if number == 1 || number < mine.number() {
+    let cause = fault.cause();
+    if cause == Cause::Unfit || cause < mine.cause() {
         return Err(LevelFault::Below(fault));
     }
     Err(mine)
@@ -113,7 +115,7 @@ impl<S: BucketStore, P: PositionMap> Level<S, P> {
     {
         match self.below.trial_drain(&[]) {
             Ok(()) => false,
-            Err(fault) => fault.number() == 1,
+            Err(fault) => fault.cause() == Cause::Unfit,
         }
     }
 
