@@ -5,7 +5,7 @@ use Rattle.posmap.specs.declared.fault.LevelFault.{LevelFault}
 use Rattle.posmap.specs.Faults.{level_number, level_row}
 use Rattle.posmap.specs.Maps.{Card}
 use Rattle.oram.specs.declared.fault.OramFault.{OramFault}
-use Rattle.oram.specs.Faults.{SameCard, oram_row}
+use Rattle.oram.specs.declared.fault.OramFault.TheVariants.{Front}
 use Rattle.oram.specs.Requests.{oram_card}
 
 -- the place of a fault of a row in front of a map
@@ -13,11 +13,8 @@ abbrev pub level_card : {F : Type 0} → CardMeaning F → LevelFault F → Card
 level_card card f = record { number = level_number card.number_of f; row = level_row card.row_of f }
 
 pub same_place : {F T : Type 0} (card : CardMeaning F) (f : LevelFault F) (y : OramFault F) (r : Result T (OramFault F)) → r ≡ Err y
-    → SameCard f y → oram_card card r ≡ Some (level_card card f)
-same_place card f y r e s =
-    ap (oram_card card) e
-    ∙ (ap (λ n. Some (record { number = n; row = oram_row card.row_of y })) (s.number card.number_of)
-    ∙ ap (λ n. Some (record { number = level_number card.number_of f; row = n })) (s.row card.row_of))
+    → y ≡ Front f → oram_card card r ≡ Some (level_card card f)
+same_place card f y r e s = ap (oram_card card) (e ∙ ap (λ x. Err x) s)
 
 -- what is refused is not accepted
 pub no_card : {c : Card} → None ≡ Some c → ⊥

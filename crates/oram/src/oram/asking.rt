@@ -10,6 +10,7 @@ use crate::oram::Oram;
 use crate::oram::work::{Ask, request_row};
 use front::fitness::{fitness, shares};
 use front::trial::{trial_drain, trial_request};
+use posmap::fault::LevelFault;
 use posmap::interface::PositionMap;
 use record::kind::RecordKind;
 use store::interface::BucketStore;
@@ -33,7 +34,7 @@ impl<K: RecordKind, S: BucketStore, P: PositionMap> Oram<K, S, P> {
         self.fit()?;
         let records = self.below.len();
         if number.0 >= records {
-            return Err(OramFault::NoNumber);
+            return Err(LevelFault::NoNumber.into());
         }
         if self.opened != records {
             return Err(OramFault::NotOpened);
@@ -71,7 +72,7 @@ impl<K: RecordKind, S: BucketStore, P: PositionMap> Oram<K, S, P> {
     {
         self.tested(number, coins)?;
         let [new, first, second, rest @ ..] = coins else {
-            return Err(OramFault::WrongCoins);
+            return Err(LevelFault::WrongCoins.into());
         };
         let shown = self.below.swap(number, *new, rest)?;
         let ask = Ask {

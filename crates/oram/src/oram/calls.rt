@@ -10,6 +10,7 @@ ghost use Rattle.std.specs.Prelude.{◌≡◌};
 use crate::fault::OramFault;
 use crate::oram::Oram;
 use crate::oram::work::drain_row;
+use posmap::fault::LevelFault;
 use posmap::interface::PositionMap;
 use record::kind::RecordKind;
 use store::interface::BucketStore;
@@ -77,7 +78,7 @@ impl<K: RecordKind, S: BucketStore, P: PositionMap> Oram<K, S, P> {
         self.fit()?;
         self.drain_tested(coins)?;
         let [along, rest @ ..] = coins else {
-            return Err(OramFault::WrongCoins);
+            return Err(LevelFault::WrongCoins.into());
         };
         self.below.drain(rest)?;
         self.queue = drain_row(&mut self.store, self.queue, self.depth, *along);

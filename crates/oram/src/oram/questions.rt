@@ -8,6 +8,7 @@ ghost use Rattle.posmap.specs.Maps.{entry_refusal, row_at};
 
 use crate::fault::OramFault;
 use crate::oram::Oram;
+use posmap::fault::LevelFault;
 use posmap::interface::PositionMap;
 use record::kind::RecordKind;
 use store::interface::BucketStore;
@@ -74,7 +75,7 @@ impl<K: RecordKind, S: BucketStore, P: PositionMap> Oram<K, S, P> {
         }
         match self.store.log_entry(k) {
             Ok(bucket) => Ok(bucket),
-            Err(_) => Err(OramFault::NoEntry(0)),
+            Err(_) => Err(LevelFault::NoEntry(0).into()),
         }
     }
 }
