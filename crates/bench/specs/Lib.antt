@@ -1,1 +1,3 @@
+pub mod Entries
 pub mod Flushes
+pub mod Placed

@@ -1,59 +1,24 @@
 // Bucket numbers as a line of text, parted by commas.
+ghost use Rattle.bench.specs.Entries.{listed};
+ghost use Rattle.std.specs.Iterator.Runs.{WholeRun};
+ghost use Rattle.std.specs.Iterator.{IsFinite};
+ghost use Rattle.std.specs.Prelude.{◌≡◌, IfOk, string_bytes};
+
+use itertools::Itertools;
 use std::alloc::{AllocError, Global};
-use tree::numbers::{BucketNumber, Leaf};
-use tree::paths::bucket_at;
-use tree::prescribed::{flush_entry, request_entry};
+use tree::numbers::BucketNumber;
 
 // The most entries of a request, at depth 12.
-const MOST: u32 = 82;
+pub const MOST: u32 = 82;
 
-// One bucket more at the end of a line.
-fn add(heap: Global, line: &mut String, bucket: BucketNumber) -> Result<(), AllocError> {
-    if !line.is_empty() {
-        line.push_str(", ")?;
-    }
-    let number = bucket.0;
-    line.push_str(format!(in heap; "{number}")?.as_str())
-}
-
-// The buckets of a path, root first.
-pub fn path_line(heap: Global, depth: u32, leaf: Leaf) -> Result<String, AllocError> {
-    let mut line = String::new(heap);
-    for layer in 0..MOST {
-        let Some(bucket) = bucket_at(depth, leaf, layer) else {
-            break;
-        };
-        add(heap, &mut line, bucket)?;
-    }
-    Ok(line)
-}
-
-// The entries of a flush, oldest first.
-pub fn flush_line(heap: Global, depth: u32, leaf: Leaf) -> Result<String, AllocError> {
-    let mut line = String::new(heap);
-    for k in 0..MOST {
-        let Some(bucket) = flush_entry(depth, leaf, k) else {
-            break;
-        };
-        add(heap, &mut line, bucket)?;
-    }
-    Ok(line)
-}
-
-// The entries of a request, oldest first.
-pub fn request_line(
+// The numbers of these buckets.
+pub(crate) fn line<I: Iterator<Item = BucketNumber> + Drop>(
     heap: Global,
-    depth: u32,
-    shown: Leaf,
-    first: Leaf,
-    second: Leaf,
-) -> Result<String, AllocError> {
-    let mut line = String::new(heap);
-    for k in 0..MOST {
-        let Some(bucket) = request_entry(depth, shown, first, second, k) else {
-            break;
-        };
-        add(heap, &mut line, bucket)?;
-    }
-    Ok(line)
+    buckets: I,
+) -> Result<String, AllocError>
+    requires can { I.can_next buckets }
+    requires finite { IsFinite (I.remaining buckets) }
+    ensures { IfOk result (λ text. WholeRun I.next_gives buckets (λ p. string_bytes text ≡ listed p.items)) }
+{
+    buckets.map(|bucket| bucket.0).join(heap, ", ")
 }

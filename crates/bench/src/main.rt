@@ -4,25 +4,33 @@
 mod entries;
 mod flushes;
 
-use entries::{flush_line, path_line, request_line};
+use entries::{MOST, line};
 use flushes::{flushed, sample};
 use steps::bench_cases;
 use tree::bucket::Bucket;
 use tree::entries::{Work, moves};
 use tree::numbers::{Leaf, RecordNumber};
+use tree::paths::{DEEPEST, bucket_at};
+use tree::prescribed::{flush_entry, request_entry};
 
 // Cases 1 to 4: a path, the entries of a flush and of a request, and how many there are at depth 12.
 fn print_entries(rt: &HostRuntime) -> anyhow::Result<()> {
     let heap = rt.alloc();
-    let path = path_line(heap, 2, Leaf(2))?;
+    let path = line(
+        heap,
+        (0..MOST).map_while(|layer| bucket_at(2, Leaf(2), layer)),
+    )?;
     println!(rt; "case 1: path of leaf 2 at depth 2: {path}")?;
-    let flush = flush_line(heap, 2, Leaf(2))?;
+    let flush = line(heap, (0..MOST).map_while(|k| flush_entry(2, Leaf(2), k)))?;
     println!(rt; "case 2: flush along leaf 2 at depth 2: {flush}")?;
-    let request = request_line(heap, 1, Leaf(0), Leaf(0), Leaf(1))?;
+    let request = line(
+        heap,
+        (0..MOST).map_while(|k| request_entry(1, Leaf(0), Leaf(0), Leaf(1), k)),
+    )?;
     println!(rt; "case 3: request at depth 1, shown leaf 0, flush leaves 0 and 1: {request}")?;
-    let request = moves(Work::Request, 12).unwrap_or(0);
-    let drain = moves(Work::Drain, 12).unwrap_or(0);
-    println!(rt; "case 4: at depth 12 a request enters {request}, a drain {drain}")?;
+    let request = moves(Work::Request, DEEPEST).unwrap();
+    let drain = moves(Work::Drain, DEEPEST).unwrap();
+    println!(rt; "case 4: at depth {DEEPEST} a request enters {request}, a drain {drain}")?;
     Ok(())
 }
 

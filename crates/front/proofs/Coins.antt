@@ -34,7 +34,3 @@ three_below D [] l = absurd (let n : ⊥ = omega arith in n)
 three_below D (x ∷ []) l = absurd (let n : ⊥ = omega arith in n)
 three_below D (x ∷ y ∷ []) l = absurd (let n : ⊥ = omega arith in n)
 three_below D (x ∷ y ∷ z ∷ xs) l = refl
-
-pub one_below : (D : ℕ) (xs : List Leaf) → 1 ≤ length xs → coins_below D 1 (at xs 0 ∷ []) ≡ coins_below D 1 (leaf_numbers xs)
-one_below D [] l = absurd (let n : ⊥ = omega arith in n)
-one_below D (x ∷ xs) l = refl

@@ -1,8 +1,9 @@
 pub mod Coins
 pub mod Refusals
 pub mod Together
-pub mod SecondHalf
 pub mod Zeroed
 pub mod Kept
 pub mod Fits
+pub mod Passed
 pub mod Frames
+pub mod Asking

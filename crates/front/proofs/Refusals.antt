@@ -1,15 +1,15 @@
 -- How the refusals of a row and of the map below it are one refusal of all their rows.
-use Rattle.std.proofs.Common.{◌≡◌, ℕ, suc, ◌+◌, ◌*◌, ◌^◌, ◌<◌, ◌≤◌, min, Bool, true, false, cond, not, ◌&&◌, eqb, ltb, leb, List, [], ◌∷◌, length, get_or, drop, is_some, Some, None, Option, sym, refl, ap, ◌∙◌, inl, inr, arith}
+use Rattle.std.proofs.Common.{◌≡◌, ℕ, suc, ◌+◌, ◌*◌, ◌^◌, ◌<◌, ◌≤◌, min, Bool, true, false, cond, not, ◌&&◌, eqb, ltb, leb, List, [], ◌∷◌, length, get_or, drop, Some, None, Option, sym, refl, ap, ◌∙◌, inl, inr, arith}
 use Rattle.std.specs.Option.{option_map}
-use Rattle.std.proofs.lemmas.Bool.{and_parts, cases_eq, eq-eqb, eqb-false, le-leb, lt-ltb, ltb-true}
+use Rattle.std.proofs.lemmas.Bool.{and_parts, cases_eq, eq-eqb, le-leb, lt-ltb, ltb-true}
 use Rattle.std.proofs.lemmas.Nat.{pow_below}
 use Rattle.std.proofs.lemmas.List.{length-drop}
 use Rattle.tree.specs.declared.block.Block.{Block}
 use Rattle.tree.specs.Blocks.{capacity}
 use Rattle.tree.specs.Entries.{drain_moves, request_moves}
 use Rattle.tree.specs.Paths.{is_depth}
-use Rattle.posmap.specs.Maps.{Card, MapRow, coins_below, coins_per_drain, coins_per_request, drain_refusal, leaf_refusal, log_refusal, naming, or_else, stopped, unless, widest_leaf}
-use Rattle.front.specs.Fronts.{deeper, drain_from, first_card, front_full, front_rows, front_unfit, own, raised, request_from}
+use Rattle.posmap.specs.Maps.{Card, MapRow, coins_below, coins_per_drain, coins_per_request, leaf_refusal, log_refusal, naming, or_else, stopped, unless, widest_leaf}
+use Rattle.front.specs.Fronts.{deeper, drain_from, first_card, front_full, front_rows, own, raised, request_from}
 
 -- the lowest row with a coin of its share not below 2 ^ D, and the lowest whose log is too full
 abbrev missing : ℕ → Bool → Option ℕ → Option ℕ
@@ -192,26 +192,3 @@ drain_refusal_lem leaves rows unfit D span log coins depth fit long =
     rw (leaf_named 1 1 rows (drop 1 coins), log_named drain_moves 1 rows, leaf_deeper 1 0 rows (drop 1 coins), log_deeper drain_moves 0 rows)
     (rw (leaf_named 1 0 rows (drop 1 coins), log_named drain_moves 0 rows, fit, depth, eq-eqb (length (drop 1 coins)) (1 * length rows) rest, le-leb 1 (length coins) many)
     (sym (simp or-none at (at6 (coins_below D 1 coins) (leb (length log + drain_moves D) span) false leafs logs None))))
-
--- a trial answers 1 exactly if a row is unfit
-number_of : (b5 : Bool) (coins logs : Option ℕ) (c : Card)
-    → Some c ≡ or_else (unless b5 (own 5)) (or_else (naming 6 coins) (naming 7 logs)) → eqb c.number 1 ≡ false
-number_of false coins logs c e = let n : c.number ≡ 5 = cc in rw n
-number_of true (Some r) logs c e = let n : c.number ≡ 6 = cc in rw n
-number_of true None (Some r) c e = let n : c.number ≡ 7 = cc in rw n
-number_of true None None c e = absurd (let z : ◌≡◌ {A = ℕ} 0 1 = cc in let n : ⊥ = omega arith in n)
-
-pub unfit_number : (rows : List MapRow) (unfit : Option ℕ) (coins : List ℕ) (c : Card) → Some c ≡ drain_refusal rows unfit coins
-    → eqb c.number 1 ≡ is_some unfit
-unfit_number rows (Some r) coins c e = let n : c.number ≡ 1 = cc in rw n
-unfit_number rows None coins c e =
-    number_of (eqb (length coins) (coins_per_drain * length rows)) (leaf_row 1 0 rows coins) (log_row drain_moves 0 rows) c
-    (rw (leaf_named 1 0 rows coins, log_named drain_moves 0 rows) at e)
-
--- what a map below answers to a trial with no coins, if it answers 1, is its unfit row
-pub unfit_raised : (fit : Bool) (rows : List MapRow) (unfit : Option ℕ) (coins : List ℕ) (c : Card)
-    → Some c ≡ drain_refusal rows unfit coins → c.number ≡ 1 → Some (raised c) ≡ naming 1 (front_unfit fit unfit)
-unfit_raised fit rows (Some r) coins c e n = ap (option_map raised) e ∙ sym (raised-named 1 r)
-unfit_raised fit rows None coins c e n =
-    let f : eqb c.number 1 ≡ false = unfit_number rows None coins c e in
-    absurd (eqb-false c.number 1 f n)

@@ -3,11 +3,11 @@ use Rattle.std.proofs.Common.{◌≡◌, ℕ, suc, ◌+◌, ◌-◌, ◌*◌, �
 use Rattle.std.proofs.lemmas.Bool.{cond-false, cond-true, eq-eqb, le-leb, lt-leb, ne_eqb}
 use Rattle.tree.specs.declared.numbers.Leaf.{Leaf}
 use Rattle.tree.specs.Blocks.{capacity}
-use Rattle.tree.specs.Entries.{drain_moves, request_moves}
+use Rattle.tree.specs.Entries.{request_moves}
 use Rattle.tree.specs.Paths.{is_depth}
-use Rattle.posmap.specs.Maps.{Card, MapRow, drain_refusal, leaf_numbers, or_else, swap_refusal, unless}
-use Rattle.front.specs.Fronts.{drain_from, first_card, own, own_drain, own_request, request_from}
-use Rattle.front.proofs.Coins.{at, left, length_numbers, numbers_at, one_below, three_below}
+use Rattle.posmap.specs.Maps.{Card, MapRow, leaf_numbers, or_else, swap_refusal, unless}
+use Rattle.front.specs.Fronts.{first_card, own, own_request, request_from}
+use Rattle.front.proofs.Coins.{at, left, length_numbers, numbers_at, three_below}
 
 pub few_coins : (share : ℕ) (xs : List Leaf) (o : Option Card) → length xs < share
     → Some (own 5) ≡ cond (leb share (length (leaf_numbers xs))) o (Some (own 5))
@@ -32,16 +32,6 @@ request_together leaves rows unfit full n D span log waiting xs {r} {mine} {lowe
     h ∙ (ap (λ m. ask m rest) (numbers_at xs 0) ∙ ap (ask (get_or (leaf_numbers xs) 0 0)) (left 3 xs)) in
     e ∙ (ap (λ o. first_card o lower) mine-is
     ∙ (ap (first_card (own_request D span log waiting (leaf_numbers xs))) lower-is ∙ sym (many_coins 3 xs _ l)))
-
-pub drain_together : (rows : List MapRow) (unfit : Option ℕ) (D span : ℕ) (log : List ℕ) (xs : List Leaf)
-    {r mine lower : Option Card} → 1 ≤ length xs → r ≡ first_card mine lower → mine ≡ own_drain D span log (at xs 0 ∷ [])
-    → lower ≡ drain_refusal rows unfit (leaf_numbers (take (length xs - 1) (drop 1 xs)))
-    → r ≡ drain_from rows unfit D span log (leaf_numbers xs)
-drain_together rows unfit D span log xs {r} {mine} {lower} l e f h =
-    let mine-is : mine ≡ own_drain D span log (leaf_numbers xs) =
-    f ∙ ap (λ b. or_else (unless (is_depth D && b) (own 6)) (unless (leb (length log + drain_moves D) span) (own 7))) (one_below D xs l) in
-    e ∙ (ap (λ o. first_card o lower) mine-is
-    ∙ (ap (first_card (own_drain D span log (leaf_numbers xs))) (h ∙ ap (drain_refusal rows unfit) (left 1 xs)) ∙ sym (many_coins 1 xs _ l)))
 
 -- the test of the count of coins, as the code makes it
 module _ (xs : List Leaf) (share rows f r : ℕ) (e : f ≡ share) (h : r ≡ rows) where

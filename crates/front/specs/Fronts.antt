@@ -1,15 +1,21 @@
 -- A row in front of a map's rows: seen from it, every row of the map is one deeper.
-use Rattle.std.specs.Prelude.{ℕ, suc, ◌+◌, ◌*◌, ◌%◌, ◌^◌, min, Bool, true, cond, not, ◌&&◌, ◌||◌, List, ◌∷◌, length, drop, Some, None, Option, ◌==◌, nat_le, nat_lt, slice_index}
+use Rattle.std.specs.Prelude.{ℕ, suc, ◌+◌, min, Bool, cond, not, ◌&&◌, ◌||◌, List, ◌∷◌, length, drop, Some, None, Option, Result, ◌==◌, nat_le, nat_lt, slice_index}
 use Rattle.std.specs.Option.{option_map}
 use Rattle.tree.specs.declared.block.Block.{Block}
-use Rattle.tree.specs.declared.numbers.Leaf.{Leaf}
 use Rattle.tree.specs.Blocks.{capacity}
 use Rattle.tree.specs.Entries.{drain_moves, request_moves}
-use Rattle.tree.specs.Paths.{is_depth, is_leaf}
-use Rattle.row.specs.declared.fault.RowFault.{RowFault}
-use Rattle.row.specs.Trials.{first_fault, has_room, is_fit}
-use Rattle.posmap.specs.Faults.{last_row}
-use Rattle.posmap.specs.Maps.{Card, MapRow, coins_below, coins_per_drain, coins_per_request, or_else, swap_refusal, drain_refusal, unless}
+use Rattle.tree.specs.Paths.{is_depth}
+use Rattle.row.specs.Trials.{is_fit}
+use Rattle.row.specs.Rows.{row_in}
+use Rattle.steps.specs.Order.{InOrder}
+use Rattle.tree.specs.Queues.{queued}
+use Rattle.front.specs.declared.front.Front.{Front}
+use Rattle.store.specs.declared.interface.BucketStore.{Ghosts as StoreMeaning}
+use Rattle.card.specs.declared.fault.CardFault.{Ghosts as CardMeaning}
+use Rattle.posmap.specs.declared.fault.LevelFault.{LevelFault}
+use Rattle.posmap.specs.declared.interface.PositionMap.{Ghosts as MapMeaning}
+use Rattle.posmap.specs.Faults.{last_row, level_card}
+use Rattle.posmap.specs.Maps.{Card, MapRow, card_of, coins_below, coins_per_drain, coins_per_request, or_else, swap_refusal, drain_refusal, unless}
 
 -- the most rows that a map below may have, and one more
 abbrev pub most_rows : ℕ
@@ -35,6 +41,38 @@ front_full queue full = cond (length queue == capacity) (Some 0) (deeper full)
 -- the row itself, with the leaves of the map below as its own, and then the rows of the map
 abbrev pub front_rows : ℕ → List ℕ → ℕ → List ℕ → List MapRow → List MapRow
 front_rows D below span log rows = record { depth = D; own = below; span = span; log = log } ∷ rows
+
+-- all rows of a store and of the map below it, where the row in front has depth D
+abbrev pub rows_with : {S P F : Type 0} → StoreMeaning S → MapMeaning P F → S → P → ℕ → List MapRow
+rows_with store map s below D = front_rows D (map.leaves below) (store.span s) (store.log s) (map.rows below)
+
+-- the unfit one of them, where the map below may have so many leaves
+abbrev pub unfit_with : {S P F : Type 0} → StoreMeaning S → MapMeaning P F → ℕ → S → P → ℕ → Option ℕ
+unfit_with store map most s below D =
+    front_unfit (fit_up_to most D (length (store.buckets s)) (length (map.leaves below)) (length (map.rows below))) (map.unfit below)
+
+-- the same of a row in front of a map: its rows, its unfit row, and whether it is fit by itself
+abbrev pub rows_of : {S P F : Type 0} → StoreMeaning S → MapMeaning P F → Front S P → List MapRow
+rows_of store map f = rows_with store map f.row.store f.below f.row.depth
+
+abbrev pub unfit_of : {S P F : Type 0} → StoreMeaning S → MapMeaning P F → ℕ → Front S P → Option ℕ
+unfit_of store map most f = unfit_with store map most f.row.store f.below f.row.depth
+
+abbrev pub is_fit_up_to : {S P F : Type 0} → StoreMeaning S → MapMeaning P F → ℕ → Front S P → Bool
+is_fit_up_to store map most f =
+    fit_up_to most f.row.depth (length (store.buckets f.row.store)) (length (map.leaves f.below)) (length (map.rows f.below))
+
+-- the lowest row whose queue is full, if one is
+abbrev pub full_of : {S P F : Type 0} → MapMeaning P F → Front S P → Option ℕ
+full_of map f = front_full (queued f.row.queue) (map.full f.below)
+
+-- it is in order: the map is, and its row is with the leaves of that map
+abbrev pub Ordered : {S P F : Type 0} → StoreMeaning S → MapMeaning P F → Front S P → Type 0
+Ordered store map f = map.ordered f.below × InOrder f.row.depth (map.leaves f.below) (row_in store f.row)
+
+-- the place on the card of an answer by a row in front of a map
+abbrev pub front_card : {F T : Type 0} → CardMeaning F → Result T (LevelFault F) → Option Card
+front_card card r = card_of (level_card card) r
 
 -- a refusal by the row itself: it is row 0
 abbrev pub own : ℕ → Card
@@ -83,26 +121,22 @@ drain_from rows unfit D span log coins =
     cond (nat_le coins_per_drain (length coins))
     (first_card (own_drain D span log coins) (drain_refusal rows unfit (drop coins_per_drain coins))) (Some (own 5))
 
--- a leaf that a map answers, reduced to the range of a row of depth D
-abbrev pub in_range : ℕ → ℕ → ℕ
-in_range D m = cond (is_depth D) (m % 2 ^ D) 0
+-- the same of a row in front of a map, where the map is asked for number n
+abbrev pub request_refusal_from : {S P F : Type 0} → StoreMeaning S → MapMeaning P F → Front S P → ℕ → List ℕ → Option Card
+request_refusal_from store map f n coins =
+    request_from (map.leaves f.below) (map.rows f.below) (map.unfit f.below) (map.full f.below) n f.row.depth (store.span f.row.store)
+    (store.log f.row.store) (length (queued f.row.queue)) coins
 
--- how many entries the second half of a request makes
-abbrev pub second_moves : ℕ → ℕ
-second_moves D = 2 * drain_moves D
+abbrev pub drain_refusal_from : {S P F : Type 0} → StoreMeaning S → MapMeaning P F → Front S P → List ℕ → Option Card
+drain_refusal_from store map f coins =
+    drain_from (map.rows f.below) (map.unfit f.below) f.row.depth (store.span f.row.store) (store.log f.row.store) coins
 
--- the leaf of what arrives, if something does
-abbrev pub arrival_fits : ℕ → Option Block → Bool
-arrival_fits D None = true
-arrival_fits D (Some b) = is_leaf D b.leaf.0
+-- how a request made at once is refused: an unfit row first, and then from the coins on
+abbrev pub request_refused : {S P F : Type 0} → StoreMeaning S → MapMeaning P F → Front S P → ℕ → List ℕ → Option Card
+request_refused store map f n coins =
+    or_else (unless (is_fit f.row.depth (length (store.buckets f.row.store))) (own 1)) (request_refusal_from store map f n coins)
 
--- where something arrives the queue must have room for it
-abbrev pub waiting_for : Option Block → ℕ → Option ℕ
-waiting_for None waiting = None
-waiting_for (Some b) waiting = Some waiting
-
--- how the second half of a request is refused by the row, if it is
-abbrev pub second_refusal : ℕ → ℕ → Option Block → Leaf → Leaf → ℕ → ℕ → ℕ → Option RowFault
-second_refusal D count arrives first second span used waiting =
-    first_fault (is_fit D count) (arrival_fits D arrives && (is_leaf D first.0 && is_leaf D second.0))
-    (nat_le (used + second_moves D) span) (has_room (waiting_for arrives waiting))
+-- and a drain
+abbrev pub drain_refused : {S P F : Type 0} → StoreMeaning S → MapMeaning P F → Front S P → List ℕ → Option Card
+drain_refused store map f coins =
+    or_else (unless (is_fit f.row.depth (length (store.buckets f.row.store))) (own 1)) (drain_refusal_from store map f coins)

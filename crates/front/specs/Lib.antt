@@ -1,1 +1,3 @@
 pub mod Fronts
+pub mod Upkeep
+pub mod Requests

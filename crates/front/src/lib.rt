@@ -3,5 +3,8 @@
 #![tactic(auto)]
 
 pub mod fitness;
-pub mod halves;
+pub mod front;
+pub mod questions;
+pub mod requests;
 pub mod trial;
+pub mod upkeep;

@@ -1,10 +1,6 @@
-pub mod CoinTests
-pub mod InOrderStill
-pub mod OwnTests
 pub mod PageLeaves
-pub mod Refusals
+pub mod Trials
 pub mod RowWork
-pub mod TrialAnswers
-pub mod Passed
+pub mod InOrderStill
 pub mod Outcomes
 pub mod Cleared

@@ -1,125 +1,89 @@
 -- What an accepted call leaves of a level, as the interface says it.
-use Rattle.std.proofs.Common.{◌≡◌, ℕ, suc, ◌-◌, ◌*◌, ◌/◌, ◌%◌, ◌^◌, ◌<◌, List, [], ◌∷◌, ◌++◌, length, get_or, take, drop, set, Some, None, Option, sym, refl, ap, ◌∙◌, subst}
-use Rattle.tree.specs.declared.numbers.Leaf.{Leaf}
+use Rattle.std.proofs.Common.{◌≡◌, ℕ, ◌/◌, ◌%◌, ◌^◌, ◌<◌, List, length, get_or, drop, set, Some, None, Option, sym, refl, ap, ◌∙◌}
+use Rattle.store.specs.declared.interface.BucketStore.{Ghosts as StoreMeaning}
+use Rattle.tree.specs.declared.queue.Queue.{Queue}
 use Rattle.tree.specs.Blocks.{capacity}
-use Rattle.tree.specs.Entries.{drain_entries, request_entries}
+use Rattle.tree.specs.Queues.{queued}
 use Rattle.steps.specs.Order.{InOrder}
-use Rattle.steps.specs.Steps.{Row, dequeued, fetched, found, second_half}
-use Rattle.posmap.specs.Maps.{DrainDone, MapRow, SameFrame, SwapDone, fixed_of, leaf_numbers}
-use Rattle.level.specs.Levels.{RowDrained, RowSwapped, level_leaves, level_rows, level_unfit, own_fit, page_words, words_found}
+use Rattle.steps.specs.Steps.{Row, found}
+use Rattle.posmap.specs.declared.interface.PositionMap.{Ghosts as MapMeaning}
+use Rattle.posmap.specs.Maps.{DrainDone, SameFrame, SwapDone}
+use Rattle.front.specs.Fronts.{front_rows}
+use Rattle.row.specs.Requests.{words_found}
+use Rattle.front.proofs.Frames.{rows_kept, unfit_kept}
+use Rattle.level.specs.declared.level.Level.{Level}
 use Rattle.level.specs.Facts.{length_pages}
-use Rattle.level.proofs.CoinTests.{at, numbers_at}
-use Rattle.level.proofs.InOrderStill.{Drained, Swapped, drain_in_order, swap_in_order}
-use Rattle.level.proofs.TrialAnswers.{left}
-
--- as many rows as before
-fixed_long : (rows : List MapRow) → length (fixed_of rows) ≡ length rows
-fixed_long [] = refl
-fixed_long (row ∷ rows) = ap suc (fixed_long rows)
+use Rattle.level.specs.Levels.{RowDrained, RowSwapped, level_leaves, most_pages, page_words, pages_from}
+use Rattle.level.specs.Meaning.{Frame, LeafSwapped, RowsDrained, leaves_of, own_row, pages_of, unfit_of}
+use Rattle.level.proofs.InOrderStill.{DrainKeeps, SwapKeeps, drain_keeps, swap_keeps}
 
 same_length : (u : Option ℕ) (before after : Row) (n : ℕ) → length (level_leaves u after n) ≡ length (level_leaves u before n)
 same_length None before after n = length_pages after 0 n ∙ sym (length_pages before 0 n)
 same_length (Some r) before after n = refl
 
-module _ (D count count' span span' : ℕ) (below below' : List ℕ) (rows rows' : List MapRow) (unfit unfit' : Option ℕ)
-    (before after : Row) (log log' : List ℕ) (frame : SameFrame below below' rows rows' unfit unfit') (ec : count' ≡ count)
-    (es : span' ≡ span) where
-  abbrev u : Option ℕ
-  u = level_unfit (own_fit D count (length below) (length rows)) unfit
+-- the level s, and what it has become: another store, map and queue, of the same depth
+module _ {S P F : Type 0} (store : StoreMeaning S) (map : MapMeaning P F) (s : Level S P) (st : S) (b : P) (q : Queue)
+    (frame : SameFrame (map.leaves s.front.below) (map.leaves b) (map.rows s.front.below) (map.rows b) (map.unfit s.front.below) (map.unfit b))
+    (ec : length (store.buckets st) ≡ length (store.buckets s.front.row.store)) (es : store.span st ≡ store.span s.front.row.store) where
+  abbrev t : Level S P
+  t = record { front = record { row = record { store = st; queue = q; depth = s.front.row.depth }; below = b } }
 
-  abbrev u' : Option ℕ
-  u' = level_unfit (own_fit D count' (length below') (length rows')) unfit'
+  same_unfit : unfit_of store map t ≡ unfit_of store map s
+  same_unfit = unfit_kept most_pages s.front.row.depth (store.log s.front.row.store) (store.log st) frame ec es
 
-  few_rows : length rows' ≡ length rows
-  few_rows = sym (fixed_long rows') ∙ (ap length frame.rows_stay ∙ fixed_long rows)
-
-  same_unfit : u' ≡ u
-  same_unfit =
-      ap (λ c. level_unfit (own_fit D c (length below') (length rows')) unfit') ec
-      ∙ (ap (λ n. level_unfit (own_fit D count n (length rows')) unfit') frame.length_stays
-      ∙ (ap (λ k. level_unfit (own_fit D count (length below) k) unfit') few_rows
-      ∙ ap (λ o. level_unfit (own_fit D count (length below) (length rows)) o) frame.unfit_stays))
-
-  pub level_frame : SameFrame (level_leaves u before (length below)) (level_leaves u' after (length below'))
-      (level_rows D below span log rows) (level_rows D below' span' log' rows') u u'
+  pub level_frame : Frame store map s t
   level_frame =
       record {
         length_stays =
-            ap (λ o. length (level_leaves o after (length below'))) same_unfit
-            ∙ (ap (λ n. length (level_leaves u after n)) frame.length_stays ∙ same_length u before after (length below));
-        rows_stay =
-            ap (λ n. (D, n, span') ∷ fixed_of rows') frame.length_stays
-            ∙ (ap (λ s. (D, length below, s) ∷ fixed_of rows') es ∙ ap (λ r. (D, length below, span) ∷ r) frame.rows_stay);
+            ap (λ u. length (level_leaves u (own_row store t) (pages_of map t))) same_unfit
+            ∙ (ap (λ n. length (level_leaves (unfit_of store map s) (own_row store t) n)) frame.length_stays
+            ∙ same_length (unfit_of store map s) (own_row store s) (own_row store t) (pages_of map s));
+        rows_stay = rows_kept most_pages s.front.row.depth (store.log s.front.row.store) (store.log st) frame ec es;
         unfit_stays = same_unfit;
       }
 
-  -- the drain of a row, told by the coins as a whole
-  pub row_drained : (xs : List Leaf) → RowDrained D before after log log' (at xs 0 ∷ [])
-      → RowDrained D before after log log' (leaf_numbers xs)
-  row_drained xs r =
-      record {
-        row = r.row ∙ ap (λ m. dequeued D m before) (numbers_at xs 0);
-        entries = r.entries ∙ ap (λ m. log ++ drain_entries D m) (numbers_at xs 0);
-      }
+  module _ (fit : unfit_of store map s ≡ None) where
+    before_is : leaves_of store map s ≡ pages_from (own_row store s) 0 (pages_of map s)
+    before_is = ap (λ u. level_leaves u (own_row store s) (pages_of map s)) fit
 
-  -- and a swap
-  pub row_asked : (i new shown : ℕ) (xs : List Leaf)
-      → RowSwapped D before after log log' i new shown (at xs 0 ∷ at xs 1 ∷ at xs 2 ∷ [])
-      → RowSwapped D before after log log' i new shown (leaf_numbers xs)
-  row_asked i new shown xs r =
-      let f = λ (a b : ℕ). second_half D (Some r.page) (a ∷ b ∷ []) (fetched D (i / 8) (shown % 2 ^ D) before) in
-      let h = λ (a b : ℕ). log ++ request_entries D (shown % 2 ^ D) (a ∷ b ∷ []) in
-      record {
-        page = r.page;
-        number = r.number;
-        leaf = r.leaf ∙ numbers_at xs 0;
-        words = r.words;
-        row = r.row ∙ (ap (λ a. f a (at xs 2)) (numbers_at xs 1) ∙ ap (f (get_or (leaf_numbers xs) 1 0)) (numbers_at xs 2));
-        entries = r.entries ∙ (ap (λ a. h a (at xs 2)) (numbers_at xs 1) ∙ ap (h (get_or (leaf_numbers xs) 1 0)) (numbers_at xs 2));
-      }
+    after_is : leaves_of store map t ≡ pages_from (own_row store t) 0 (pages_of map t)
+    after_is = ap (λ u. level_leaves u (own_row store t) (pages_of map t)) (same_unfit ∙ fit)
 
-  module _ (xs : List Leaf) (r : RowDrained D before after log log' (leaf_numbers xs)) (o : InOrder D below before)
-      (lower : DrainDone below below' rows rows' (leaf_numbers (take (length xs - 1) (drop 1 xs)))) where
-    drained : Drained D below below' rows rows' before after span log log' (leaf_numbers xs)
-    drained =
-        drain_in_order D below below' rows rows' before after span log log' (leaf_numbers xs) o
-        (subst (λ cs. DrainDone below below' rows rows' cs) (left 1 xs) lower) r
+  module _ (coins : List ℕ) (r : RowDrained s.front.row.depth (own_row store s) (own_row store t) (store.log s.front.row.store) (store.log st) coins)
+      (o : InOrder s.front.row.depth (map.leaves s.front.below) (own_row store s))
+      (lower : DrainDone (map.leaves s.front.below) (map.leaves b) (map.rows s.front.below) (map.rows b) (drop 1 coins)) where
+    drained : DrainKeeps s.front.row.depth (map.leaves s.front.below) (map.leaves b) (map.rows s.front.below) (map.rows b) (own_row store s)
+        (own_row store t) (store.span s.front.row.store) (store.log s.front.row.store) (store.log st) coins
+    drained = drain_keeps _ _ _ _ _ _ _ _ _ _ coins o lower r
 
-    pub drain_ordered : InOrder D below' after
+    pub drain_ordered : InOrder s.front.row.depth (map.leaves b) (own_row store t)
     drain_ordered = drained.ordered
 
-    pub drain_done : u ≡ None
-        → DrainDone (level_leaves u before (length below)) (level_leaves u' after (length below')) (level_rows D below span log rows)
-        (level_rows D below' span' log' rows') (leaf_numbers xs)
-    drain_done fit =
+    pub rows_drain : unfit_of store map s ≡ None → RowsDrained store map s t coins
+    rows_drain fit =
         record {
-          leaves_stay =
-              ap (λ x. level_leaves x after (length below')) (same_unfit ∙ fit)
-              ∙ (drained.leaves ∙ ap (λ x. level_leaves x before (length below)) (sym fit));
-          drains_rows = ap (λ s. level_rows D below' s log' rows') es ∙ drained.drained;
+          leaves_stay = after_is fit ∙ (drained.leaves ∙ sym (before_is fit));
+          drains_rows = ap (λ k. front_rows s.front.row.depth (map.leaves b) k (store.log st) (map.rows b)) es ∙ drained.drained;
         }
 
-  module _ (i new shown : ℕ) (xs : List Leaf) (r : RowSwapped D before after log log' i new shown (leaf_numbers xs))
-      (o : InOrder D below before)
-      (lower : SwapDone below below' rows rows' (i / 8) (get_or (leaf_numbers xs) 0 0) (leaf_numbers (take (length xs - 3) (drop 3 xs))) shown)
-      (l : i < 8 * length below) (fits : get_or (leaf_numbers xs) 0 0 < 2 ^ D) (room : length before.queue < capacity) where
-    swapped : Swapped D below below' rows rows' before after span log log' i new shown (leaf_numbers xs)
-    swapped =
-        swap_in_order D below below' rows rows' before after span log log' i new shown (leaf_numbers xs) o
-        (subst (λ cs. SwapDone below below' rows rows' (i / 8) (get_or (leaf_numbers xs) 0 0) cs shown) (left 3 xs) lower) r l fits room
+  module _ (i new shown : ℕ) (coins : List ℕ)
+      (r : RowSwapped s.front.row.depth (own_row store s) (own_row store t) (store.log s.front.row.store) (store.log st) i new shown coins)
+      (o : InOrder s.front.row.depth (map.leaves s.front.below) (own_row store s))
+      (lower : SwapDone (map.leaves s.front.below) (map.leaves b) (map.rows s.front.below) (map.rows b) (i / 8) (get_or coins 0 0) (drop 3 coins) shown)
+      (l : i / 8 < pages_of map s) (fits : get_or coins 0 0 < 2 ^ s.front.row.depth) (room : length (queued s.front.row.queue) < capacity) where
+    swapped : SwapKeeps s.front.row.depth (map.leaves s.front.below) (map.leaves b) (map.rows s.front.below) (map.rows b) (own_row store s)
+        (own_row store t) (store.span s.front.row.store) (store.log s.front.row.store) (store.log st) i new shown coins
+    swapped = swap_keeps _ _ _ _ _ _ _ _ _ _ i new shown coins o lower r l fits room
 
-    pub swap_ordered : InOrder D below' after
+    pub swap_ordered : InOrder s.front.row.depth (map.leaves b) (own_row store t)
     swap_ordered = swapped.ordered
 
-    pub swap_done : (answer : ℕ) → u ≡ None
-        → answer ≡ get_or (page_words (words_found (found D (i / 8) (shown % 2 ^ D) before))) (i % 8) 0
-        → SwapDone (level_leaves u before (length below)) (level_leaves u' after (length below')) (level_rows D below span log rows)
-        (level_rows D below' span' log' rows') i new (leaf_numbers xs) answer
-    swap_done answer fit e =
+    pub leaf_swaps : (answer : ℕ) → unfit_of store map s ≡ None
+        → answer ≡ get_or (page_words (words_found (found s.front.row.depth (i / 8) (shown % 2 ^ s.front.row.depth) (own_row store s)))) (i % 8) 0
+        → LeafSwapped store map s t i new coins answer
+    leaf_swaps answer fit e =
         record {
-          shown = e ∙ (swapped.answer ∙ ap (λ x. get_or (level_leaves x before (length below)) i 0) (sym fit));
-          sets_leaf =
-              ap (λ x. level_leaves x after (length below')) (same_unfit ∙ fit)
-              ∙ (swapped.leaves ∙ ap (λ x. set (level_leaves x before (length below)) i new) (sym fit));
-          rows_asked = ap (λ s. level_rows D below' s log' rows') es ∙ swapped.asked;
+          shown = e ∙ (swapped.answer ∙ ap (λ xs. get_or xs i 0) (sym (before_is fit)));
+          sets_leaf = after_is fit ∙ (swapped.leaves ∙ ap (λ xs. set xs i new) (sym (before_is fit)));
+          rows_asked = ap (λ k. front_rows s.front.row.depth (map.leaves b) k (store.log st) (map.rows b)) es ∙ swapped.asked;
         }

@@ -1,6 +1,7 @@
-use crate::setup::{card, small};
+use crate::setup::small;
 use level::level::Level;
 use posmap::interface::PositionMap;
+use rig::answers::refusal;
 use std::test::Fail;
 use store::journal::JournalStore;
 use tree::numbers::{Leaf, RecordNumber};
@@ -17,22 +18,25 @@ fn stores_mixed(rt: HostRuntime) -> Result<(), Fail> {
     let coins = [Leaf(1), Leaf(0), Leaf(1), Leaf(0), Leaf(1), Leaf(1)];
     let wide = [Leaf(1), Leaf(0), Leaf(1), Leaf(0), Leaf(1), Leaf(2)];
     assert_eq!(rt;
-        card(map.trial_swap(RecordNumber(128), Leaf(5), &wide)),
-        200
+        refusal(map.trial_swap(RecordNumber(128), Leaf(5), &wide)),
+        Some((2, 0))
     );
     assert_eq!(rt;
-        card(map.trial_swap(RecordNumber(127), Leaf(5), &wide)),
-        601
+        refusal(map.trial_swap(RecordNumber(127), Leaf(5), &wide)),
+        Some((6, 1))
     );
     assert_eq!(rt;
-        card(map.trial_swap(RecordNumber(127), Leaf(5), &wide[0..5])),
-        500
+        refusal(map.trial_swap(RecordNumber(127), Leaf(5), &wide[0..5])),
+        Some((5, 0))
     );
-    assert_eq!(rt; card(map.swap(RecordNumber(127), Leaf(5), &coins)), 0);
+    assert_eq!(rt; refusal(map.swap(RecordNumber(127), Leaf(5), &coins)), None);
     assert_eq!(rt; map.row_used(0), 16);
     assert_eq!(rt; map.row_used(1), 16);
     // the table store below has no free entry left
-    assert_eq!(rt; card(map.swap(RecordNumber(127), Leaf(6), &coins)), 701);
+    assert_eq!(rt;
+        refusal(map.swap(RecordNumber(127), Leaf(6), &coins)),
+        Some((7, 1))
+    );
     assert_eq!(rt; map.row_used(0), 16);
     Ok(())
 }

@@ -1,7 +1,8 @@
 -- When a call is accepted, and that a small Oram never refuses by 8.
-use Rattle.std.proofs.Common.{◌≡◌, ℕ, zero, suc, ◌+◌, ◌*◌, ◌^◌, ◌<◌, ◌≤◌, Bool, true, false, cond, eqb, ltb, leb, List, [], ◌∷◌, map, length, get_or, drop, IfSome, Some, None, Option, refl, ap, ◌∙◌, subst, mul-zero, mul-suc, arith}
+use Rattle.std.proofs.Common.{◌≡◌, ℕ, zero, suc, ◌+◌, ◌*◌, ◌^◌, ◌<◌, ◌≤◌, Bool, true, false, cond, eqb, ltb, leb, List, [], ◌∷◌, map, length, get_or, drop, IfSome, Some, None, Option, sym, refl, ap, ◌∙◌, subst, mul-zero, mul-suc, arith}
 use Rattle.std.proofs.ByRecursion.{All-get_or}
 use Rattle.std.proofs.lemmas.List.{get_or-drop, length-map}
+use Rattle.std.proofs.lemmas.Option.{none-some}
 use Rattle.std.proofs.lemmas.Bool.{and_from, eq-eqb, le-leb, lt-ltb, ne_eqb}
 use Rattle.tree.specs.Blocks.{capacity}
 use Rattle.tree.specs.Entries.{drain_moves, request_moves}
@@ -62,7 +63,7 @@ drain_passes rows unfit coins fit right free =
 -- no refusal: the call is done
 pub none_done : {R : Type 0} (outcome : Outcome R) → refusal_in outcome ≡ None → is_done outcome ≡ true
 none_done (did x) e = refl
-none_done (refused c) e = absurd (let z : ◌≡◌ {A = ℕ} 0 1 = cc in let n : ⊥ = omega arith in n)
+none_done (refused c) e = absurd (none-some _ (sym e))
 
 none_or : {X : Type 0} {a b : Option X} → a ≡ None → b ≡ None → or_else a b ≡ None
 none_or {a = a} {b = b} e f = ap (λ x. or_else x b) e ∙ f
@@ -83,7 +84,7 @@ module _ {K S P F : Type 0} (store : StoreMeaning S) (maps : MapMeaning P F) (co
       → ((r : ℕ) → r < length (rows_of store maps o) → length (row_at (rows_of store maps o) r).log + request_moves (row_at (rows_of store maps o) r).depth ≤ (row_at (rows_of store maps o) r).span)
       → full_of maps o ≡ None → request_refusal store maps o n coins ≡ None
   request_accepted n fit l right free room =
-      swap_full (maps.leaves o.below) (rows_of store maps o) (unfit_of store maps o) (full_of maps o) n coins fit l right free ∙ ap (naming 8) room
+      swap_full (maps.leaves o.front.below) (rows_of store maps o) (unfit_of store maps o) (full_of maps o) n coins fit l right free ∙ ap (naming 8) room
 
   ask_in_time : (n : ℕ) → (o.opened ≡ records_of maps o) × (n < records_of maps o) → ask_time (records_of maps o) o.opened n ≡ None
   ask_in_time n t = rw (lt-ltb n (records_of maps o) t.1, eq-eqb o.opened (records_of maps o) t.0) refl
@@ -107,10 +108,10 @@ module _ {K S P F : Type 0} (store : StoreMeaning S) (maps : MapMeaning P F) (co
   -- in a small Oram no queue is full
   pub small_room : Ordered store maps o → Small (rows_of store maps o) → full_of maps o ≡ None
   small_room ord small =
-      let b = o.below in
-      let few = order_kept.never_full o.depth (maps.leaves b) (row_of store o) ord.1 small.0 in
+      let b = o.front.below in
+      let few = order_kept.never_full o.front.row.depth (maps.leaves b) (row_of store o) ord.1 small.0 in
       let f = maps.facts b in
-      room_of (eqb (length (queued o.queue)) capacity) (maps.full b) (ne_eqb _ _ (λ e. omega arith))
+      room_of (eqb (length (queued o.front.row.queue)) capacity) (maps.full b) (ne_eqb _ _ (λ e. omega arith))
       (nothing_full (maps.full b) (maps.rows b) f.full_named (f.small_never_full ord.0) small.1)
 
 -- a refusal whose number is at most 7
@@ -163,7 +164,7 @@ module _ {K S P F : Type 0} (store : StoreMeaning S) (maps : MapMeaning P F) (co
       (early_test (eqb o.opened (records_of maps o)) _ (omega arith))
 
   request_early : (n : ℕ) → full_of maps o ≡ None → Early (request_refusal store maps o n coins)
-  request_early n e = early_swap (maps.leaves o.below) (rows_of store maps o) (unfit_of store maps o) (full_of maps o) n coins e
+  request_early n e = early_swap (maps.leaves o.front.below) (rows_of store maps o) (unfit_of store maps o) (full_of maps o) n coins e
 
   -- with no queue full no call is refused by 8
   early : (call : Call K) → full_of maps o ≡ None → Early (refusal_of store maps o call coins)

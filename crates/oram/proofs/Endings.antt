@@ -1,23 +1,44 @@
 -- What a call does, from how it ends.
-use Rattle.std.proofs.Common.{◌≡◌, ℕ, suc, ◌+◌, ◌<◌, List, Some, None, Ok, Err, Option, sym, refl, ap, ◌∙◌, subst, add-one, arith}
+use Rattle.std.proofs.Common.{◌≡◌, ℕ, suc, ◌+◌, ◌<◌, List, Some, None, Ok, Err, Option, sym, refl, ap, ◌∙◌, subst, add-one}
 use Rattle.std.specs.Option.{option_map}
+use Rattle.std.proofs.lemmas.Option.{none-some}
 use Rattle.std.proofs.lemmas.Bool.{false≢true, lt-ltb}
 use Rattle.record.specs.declared.kind.RecordKind.{Ghosts as KindMeaning}
 use Rattle.store.specs.declared.interface.BucketStore.{Ghosts as StoreMeaning}
 use Rattle.card.specs.declared.fault.CardFault.{Ghosts as CardMeaning}
 use Rattle.posmap.specs.declared.interface.PositionMap.{Ghosts as MapMeaning}
-use Rattle.posmap.specs.Maps.{Card, naming, or_else, unless}
+use Rattle.posmap.specs.Maps.{Card, SameFrame, naming, or_else, unless}
+use Rattle.row.specs.Rows as rows
 use Rattle.front.specs.Fronts.{own}
+use Rattle.front.proofs.Frames.{rows_kept, unfit_kept}
 use Rattle.history.specs.Histories.{Call, opening, getting, putting, draining, tearing}
 use Rattle.oram.specs.declared.fault.OramFault.{OramFault}
 use Rattle.oram.specs.declared.oram.Oram.{Oram}
 use Rattle.oram.specs.Calls.{Does, Drained, Frame, refused, did, Requested, TornOff, ask_time, card_in, open_time, refusal_of, request_refusal}
-use Rattle.oram.specs.Orams.{Ordered, records_of, unfit_of}
-use Rattle.oram.specs.Requests.{Asks}
+use Rattle.oram.specs.Orams.{Ordered, most_records, records_of, unfit_of}
+use Rattle.oram.specs.Requests.{Asks, oram_card}
 
 -- a fit Oram with a record left to open
 pub open_passes : (unfit : Option ℕ) (N opened : ℕ) → None ≡ naming 1 unfit → opened < N → None ≡ or_else (naming 1 unfit) (open_time N opened)
 open_passes unfit N opened e l = e ∙ sym (ap (λ x. or_else x (open_time N opened)) (sym e) ∙ ap (λ b. unless b (own 4)) (lt-ltb opened N l) ∙ e)
+
+-- an Oram keeps what never changes, if its row and the map below it do
+pub frame_kept : {K S P F : Type 0} (kind : KindMeaning K) (store : StoreMeaning S) (maps : MapMeaning P F) (coins : List ℕ) (o o' : Oram K S P)
+    → SameFrame (maps.leaves o.front.below) (maps.leaves o'.front.below) (maps.rows o.front.below) (maps.rows o'.front.below)
+    (maps.unfit o.front.below) (maps.unfit o'.front.below)
+    → rows.Frame store o.front.row o'.front.row → Frame kind store maps coins o o'
+frame_kept kind store maps coins o o' lower own =
+    let D = o.front.row.depth in
+    let log = store.log o.front.row.store in
+    let log' = store.log o'.front.row.store in
+    record {
+      rows = record {
+        length_stays = lower.length_stays;
+        rows_stay = rw own.depth (rows_kept most_records D log log' lower own.count own.span);
+        unfit_stays = rw own.depth (unfit_kept most_records D log log' lower own.count own.span);
+      };
+      buckets = own.count;
+    }
 
 module _ {K S P F : Type 0} (kind : KindMeaning K) (store : StoreMeaning S) (maps : MapMeaning P F) (coins : List ℕ) (o : Oram K S P) where
   -- refused with nothing done
@@ -31,20 +52,28 @@ module _ {K S P F : Type 0} (kind : KindMeaning K) (store : StoreMeaning S) (map
         accepted = λ _ h. absurd (false≢true h);
       }
 
+  -- a request in time, refused with nothing done
+  pub refused_ask : (card : CardMeaning F) (n : ℕ) (put : Option (List ℕ)) (f : OramFault F)
+      → oram_card {T = Option (List ℕ)} card (Err f) ≡ request_refusal store maps o n coins → Asks kind store maps card coins o o n put (Err f)
+  refused_ask card n put f e =
+      record {
+        refusal = e;
+        same = λ _. refl;
+        frame = record { rows = record { length_stays = refl; rows_stay = refl; unfit_stays = refl }; buckets = refl };
+        opened = refl;
+        done = λ _. tt;
+      }
+
   -- what comes before the coins refuses, or does not
   pub time_refuses : (u time rest : Option Card) (c : Card) → Some c ≡ or_else u time → Some c ≡ or_else u (or_else time rest)
   time_refuses (Some x) time rest c e = e
   time_refuses None (Some x) rest c e = e
-  time_refuses None None rest c e = absurd (let z : ◌≡◌ {A = ℕ} 0 1 = cc in let n : ⊥ = omega arith in n)
-
-  pub unfit_refuses : (u rest : Option Card) (c : Card) → Some c ≡ u → Some c ≡ or_else u rest
-  unfit_refuses (Some x) rest c e = e
-  unfit_refuses None rest c e = absurd (let z : ◌≡◌ {A = ℕ} 0 1 = cc in let n : ⊥ = omega arith in n)
+  time_refuses None None rest c e = absurd (none-some _ (sym e))
 
   time_passes : (u time rest : Option Card) → None ≡ or_else u time → rest ≡ or_else u (or_else time rest)
   time_passes None None rest e = refl
-  time_passes None (Some x) rest e = absurd (let z : ◌≡◌ {A = ℕ} 0 1 = cc in let n : ⊥ = omega arith in n)
-  time_passes (Some x) time rest e = absurd (let z : ◌≡◌ {A = ℕ} 0 1 = cc in let n : ⊥ = omega arith in n)
+  time_passes None (Some x) rest e = absurd (none-some _ e)
+  time_passes (Some x) time rest e = absurd (none-some _ e)
 
   module _ (card : CardMeaning F) (o' : Oram K S P) (n : ℕ) (put : Option (List ℕ)) (time : Option Card)
       (passed : None ≡ or_else (naming 1 (unfit_of store maps o)) time) where
@@ -103,7 +132,7 @@ module _ {K S P F : Type 0} (kind : KindMeaning K) (store : StoreMeaning S) (map
 
   -- an open that is accepted: then one more record is opened
   abbrev pub one_more : Oram K S P → Oram K S P
-  one_more x = record { store = x.store; below = x.below; queue = x.queue; depth = x.depth; opened = x.opened + 1; kind = x.kind }
+  one_more x = record { front = x.front; opened = x.opened + 1; kind = x.kind }
 
   pub open_done : (card : CardMeaning F) (o' : Oram K S P) → None ≡ or_else (naming 1 (unfit_of store maps o)) (open_time (records_of maps o) o.opened)
       → (words : Option (List ℕ)) → Asks kind store maps card coins o o' o.opened None (Ok words)

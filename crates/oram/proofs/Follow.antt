@@ -5,7 +5,7 @@ use Rattle.std.proofs.lemmas.Bool.{cases_eq, cond-false, cond-true, eq-eqb, ne_e
 use Rattle.tree.specs.Entries.{drain_entries, request_entries}
 use Rattle.posmap.specs.Maps.{MapRow, OwnLeaves, divided, row_at, row_swapped, rows_drained, rows_swapped, rows_torn, rows_zeroed}
 use Rattle.front.proofs.Zeroed.{torn_long, zeroed_long}
-use Rattle.history.specs.Histories.{Deed, rest, request, drain, tear_off, log_of, row_number, shown_in}
+use Rattle.history.specs.Histories.{Deed, request, drain, tear_off, log_of, row_number, shown_in}
 use Rattle.oram.specs.Calls.{rows_requested}
 
 -- a row's log is the prescribed one, and each of its leaves the shown one, after these deeds under these coins
@@ -187,8 +187,3 @@ begun_follows rows r k =
     let k' : r < length rows = rw (zeroed_long rows) at k in
     let P : MapRow → Type 0 = λ x. Follows r x [] [] in
     subst P (sym (zeroed_at rows r k')) (record { log = refl; leaves = λ m l. get_d_zeros (length (row_at rows r).own) m })
-
--- nothing at all
-pub rest_follows : (rows : List MapRow) (coins : List ℕ) (ds : List Deed) (cs : List (List ℕ)) → AllFollow rows ds cs
-    → AllFollow rows (rest ∷ ds) (coins ∷ cs)
-rest_follows rows coins ds cs f r k = record { log = (f r k).log; leaves = (f r k).leaves }

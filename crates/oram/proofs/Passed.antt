@@ -1,25 +1,11 @@
--- What a call tells that was not refused.
-use Rattle.std.proofs.Common.{◌≡◌, ℕ, zero, suc, ◌+◌, ◌*◌, ◌^◌, ◌<◌, ◌≤◌, Bool, true, false, eqb, ltb, leb, List, [], ◌∷◌, map, length, get_or, drop, Some, None, Option, sym, refl, ap, ◌∙◌, mul-zero, mul-suc, arith}
+-- What a call tells of all rows that was not refused.
+use Rattle.std.proofs.Common.{◌≡◌, ℕ, zero, suc, ◌+◌, ◌*◌, ◌^◌, ◌<◌, ◌≤◌, true, eqb, ltb, leb, List, [], ◌∷◌, map, length, get_or, drop, None, Option, sym, ap, ◌∙◌, mul-zero, mul-suc, arith}
 use Rattle.std.proofs.lemmas.List.{get_or-drop, length-drop, length-map}
 use Rattle.std.proofs.lemmas.Bool.{and_parts, eqb-true, ltb-true}
 use Rattle.tree.specs.Entries.{drain_moves, request_moves}
-use Rattle.posmap.specs.Maps.{Card, MapRow, coins_below, coins_per_drain, coins_per_request, drain_refusal, leaf_refusal, log_refusal, naming, or_else, stopped, swap_refusal, unless}
+use Rattle.posmap.specs.Maps.{MapRow, coins_below, coins_per_drain, coins_per_request, drain_refusal, leaf_refusal, log_refusal, naming, stopped, swap_refusal, unless}
+use Rattle.front.proofs.Fits.{none_named, or-none, unless-none}
 use Rattle.history.specs.Histories.{Leaves}
-
-some-none : {X : Type 0} {x : X} → Some x ≡ None → ⊥
-some-none e = let z : ◌≡◌ {A = ℕ} 0 1 = cc in omega arith
-
-pub both_none : {X : Type 0} (a b : Option X) → or_else a b ≡ None → (a ≡ None) × (b ≡ None)
-both_none None b e = (refl, e)
-both_none (Some x) b e = absurd (some-none e)
-
-pub test_passed : (b : Bool) (c : Card) → unless b c ≡ None → b ≡ true
-test_passed true c e = refl
-test_passed false c e = absurd (some-none e)
-
-pub none_named : (n : ℕ) (o : Option ℕ) → naming n o ≡ None → o ≡ None
-none_named n None e = refl
-none_named n (Some r) e = absurd (some-none e)
 
 -- the share of one row
 coin_below : (D k : ℕ) (coins : List ℕ) (i : ℕ) → coins_below D k coins ≡ true → k ≤ length coins → i < k → get_or coins i 0 < 2 ^ D
@@ -31,17 +17,17 @@ coin_below D (suc k) (m ∷ ms) (suc i) e l h =
 
 -- no row with a coin that is no leaf: every coin is one
 each_coin : (share q : ℕ) (rows : List MapRow) (coins : List ℕ) → length coins ≡ share * length rows
-    → leaf_refusal share q rows coins ≡ None → (r i : ℕ) → r < length (map (λ row. row.depth) rows) → i < share
+    → None ≡ leaf_refusal share q rows coins → (r i : ℕ) → r < length (map (λ row. row.depth) rows) → i < share
     → get_or coins (share * r + i) 0 < 2 ^ get_or (map (λ row. row.depth) rows) r 0
 each_coin share q [] coins long e r i k h = absurd (let n : ⊥ = omega arith in n)
 each_coin share q (row ∷ rows) coins long e zero i k h =
-    let p = both_none (unless (coins_below row.depth share coins) (record { number = 6; row = stopped q }))
+    let p = or-none (unless (coins_below row.depth share coins) (record { number = 6; row = stopped q }))
     (leaf_refusal share (suc q) rows (drop share coins)) e in
     let m = mul-suc share (length rows) in
     let z : share * 0 + i ≡ i = omega (arith, mul-zero share) in
-    rw z (coin_below row.depth share coins i (test_passed (coins_below row.depth share coins) _ p.0) (omega arith) h)
+    rw z (coin_below row.depth share coins i (unless-none (coins_below row.depth share coins) _ p.0) (omega arith) h)
 each_coin share q (row ∷ rows) coins long e (suc r) i k h =
-    let p = both_none (unless (coins_below row.depth share coins) (record { number = 6; row = stopped q }))
+    let p = or-none (unless (coins_below row.depth share coins) (record { number = 6; row = stopped q }))
     (leaf_refusal share (suc q) rows (drop share coins)) e in
     let m = mul-suc share (length rows) in
     let z : share * suc r + i ≡ share + (share * r + i) = omega (arith, mul-suc share r) in
@@ -49,7 +35,7 @@ each_coin share q (row ∷ rows) coins long e (suc r) i k h =
     rw (z, ← (get_or-drop share coins (share * r + i) 0)) (each_coin share (suc q) rows (drop share coins) l p.1 r i (omega arith) h)
 
 pub coins_right : (share q : ℕ) (rows : List MapRow) (coins : List ℕ) → length coins ≡ share * length rows
-    → leaf_refusal share q rows coins ≡ None → Leaves share (map (λ row. row.depth) rows) coins
+    → None ≡ leaf_refusal share q rows coins → Leaves share (map (λ row. row.depth) rows) coins
 coins_right share q rows coins long e = (
   long ∙ ap (λ n. share * n) (sym (length-map rows (λ row. row.depth))),
   each_coin share q rows coins long e,
@@ -60,22 +46,22 @@ pub record SwapPassed (leaves : List ℕ) (rows : List MapRow) (unfit full : Opt
   pub fit : unfit ≡ None
   pub number : n < length leaves
   pub right : Leaves coins_per_request (map (λ row. row.depth) rows) coins
-  pub free : log_refusal request_moves 0 rows ≡ None
+  pub free : None ≡ log_refusal request_moves 0 rows
   pub room : full ≡ None
 
 pub swap_passed : (leaves : List ℕ) (rows : List MapRow) (unfit full : Option ℕ) (n new : ℕ) (coins : List ℕ)
-    → swap_refusal leaves rows unfit full n new coins ≡ None → SwapPassed leaves rows unfit full n coins
+    → None ≡ swap_refusal leaves rows unfit full n new coins → SwapPassed leaves rows unfit full n coins
 swap_passed leaves rows unfit full n new coins e =
-    let t1 = both_none (naming 1 unfit) _ e in
-    let t2 = both_none (unless (ltb n (length leaves)) _) _ t1.1 in
-    let t5 = both_none (unless (eqb (length coins) (3 * length rows)) _) _ t2.1 in
-    let t6 = both_none (unless (leb new 4095) _) _ t5.1 in
-    let t6a = both_none (leaf_refusal 3 0 rows coins) _ t6.1 in
-    let t7 = both_none (log_refusal request_moves 0 rows) _ t6a.1 in
-    let long : length coins ≡ 3 * length rows = eqb-true _ _ (test_passed _ _ t5.0) in
+    let t1 = or-none (naming 1 unfit) _ e in
+    let t2 = or-none (unless (ltb n (length leaves)) _) _ t1.1 in
+    let t5 = or-none (unless (eqb (length coins) (3 * length rows)) _) _ t2.1 in
+    let t6 = or-none (unless (leb new 4095) _) _ t5.1 in
+    let t6a = or-none (leaf_refusal 3 0 rows coins) _ t6.1 in
+    let t7 = or-none (log_refusal request_moves 0 rows) _ t6a.1 in
+    let long : length coins ≡ 3 * length rows = eqb-true _ _ (unless-none _ _ t5.0) in
     record {
       fit = none_named 1 unfit t1.0;
-      number = ltb-true n (length leaves) (test_passed _ _ t2.0);
+      number = ltb-true n (length leaves) (unless-none _ _ t2.0);
       right = coins_right 3 0 rows coins long t6a.0;
       free = t7.0;
       room = none_named 8 full t7.1;
@@ -85,13 +71,13 @@ swap_passed leaves rows unfit full n new coins e =
 pub record DrainPassed (rows : List MapRow) (unfit : Option ℕ) (coins : List ℕ) : Type 0 where
   pub fit : unfit ≡ None
   pub right : Leaves coins_per_drain (map (λ row. row.depth) rows) coins
-  pub free : log_refusal drain_moves 0 rows ≡ None
+  pub free : None ≡ log_refusal drain_moves 0 rows
 
-pub drain_passed : (rows : List MapRow) (unfit : Option ℕ) (coins : List ℕ) → drain_refusal rows unfit coins ≡ None
+pub drain_passed : (rows : List MapRow) (unfit : Option ℕ) (coins : List ℕ) → None ≡ drain_refusal rows unfit coins
     → DrainPassed rows unfit coins
 drain_passed rows unfit coins e =
-    let t1 = both_none (naming 1 unfit) _ e in
-    let t5 = both_none (unless (eqb (length coins) (1 * length rows)) _) _ t1.1 in
-    let t6 = both_none (leaf_refusal 1 0 rows coins) _ t5.1 in
-    let long : length coins ≡ 1 * length rows = eqb-true _ _ (test_passed _ _ t5.0) in
+    let t1 = or-none (naming 1 unfit) _ e in
+    let t5 = or-none (unless (eqb (length coins) (1 * length rows)) _) _ t1.1 in
+    let t6 = or-none (leaf_refusal 1 0 rows coins) _ t5.1 in
+    let long : length coins ≡ 1 * length rows = eqb-true _ _ (unless-none _ _ t5.0) in
     record { fit = none_named 1 unfit t1.0; right = coins_right 1 0 rows coins long t6.0; free = t6.1 }

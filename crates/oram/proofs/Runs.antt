@@ -33,8 +33,8 @@ module _ {K S P F : Type 0} (kind : KindMeaning K) (store : StoreMeaning S) (map
         opened = b.opened;
         array = λ m l.
             ap (option_map kind.made)
-            (ap (content m) (zero_row (store.buckets o.store) (store.buckets o.store) o.queue b.buckets b.queue)
-            ∙ order_kept.cleared_holds m (length (store.buckets o.store)))
+            (ap (content m) (zero_row (store.buckets o.front.row.store) (store.buckets o.front.row.store) o.front.row.queue b.buckets b.queue)
+            ∙ order_kept.cleared_holds m (length (store.buckets o.front.row.store)))
             ∙ sym (get_d_none (records_of maps o) m);
         can = tt;
       }

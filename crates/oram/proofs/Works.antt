@@ -20,7 +20,8 @@ use Rattle.oram.specs.Orams.{Ordered, depths_of, held, records_of, row_of, rows_
 use Rattle.oram.specs.Worked.{Worked, turn_of}
 use Rattle.oram.proofs.Arrivals.{arrives_named, arrives_words}
 use Rattle.oram.proofs.Follow.{AllFollow, drain_follows, request_follows, tear_follows}
-use Rattle.oram.proofs.Passed.{SwapPassed, both_none, drain_passed, swap_passed, test_passed}
+use Rattle.front.proofs.Fits.{or-none, unless-none}
+use Rattle.oram.proofs.Passed.{SwapPassed, drain_passed, swap_passed}
 
 -- the plain array keeps its length
 written_long : {R : Type 0} (c : Call R) (xs : List (Option R)) → length (written c xs) ≡ length xs
@@ -64,35 +65,35 @@ module _ {K S P F : Type 0} (kind : KindMeaning K) (store : StoreMeaning S) (map
   -- a request for record n
   module _ (frame : Frame kind store maps coins o o') (ordered' : Ordered store maps o') (n : ℕ)
       (words : Option (List ℕ) → Option (List ℕ)) (req : Requested kind store maps coins o o' n words)
-      (p : SwapPassed (maps.leaves o.below) (rows_of store maps o) (unfit_of store maps o) (full_of maps o) n coins)
+      (p : SwapPassed (maps.leaves o.front.below) (rows_of store maps o) (unfit_of store maps o) (full_of maps o) n coins)
       (h : History K) (w : Worked kind store maps h o) where
-    fits : get_or coins 0 0 < 2 ^ o.depth
+    fits : get_or coins 0 0 < 2 ^ o.front.row.depth
     fits = p.right.1 0 0 (omega arith) (omega arith)
 
-    room : length (queued o.queue) < capacity
-    room = room_left o.queue (none_full (eqb (length (queued o.queue)) capacity) (maps.full o.below) p.room)
+    room : length (queued o.front.row.queue) < capacity
+    room = room_left o.front.row.queue (none_full (eqb (length (queued o.front.row.queue)) capacity) (maps.full o.front.below) p.room)
 
     holds : content n (row_of store o') ≡ words (content n (row_of store o))
     holds =
-        kept_holds o.depth (maps.leaves o.below) (row_of store o) (row_of store o') n (get_or coins 0 0) req.arrives
+        kept_holds o.front.row.depth (maps.leaves o.front.below) (row_of store o) (row_of store o') n (get_or coins 0 0) req.arrives
         (get_or coins 1 0 ∷ get_or coins 2 0 ∷ []) w.ordered.1 p.number fits room
         (arrives_named n (get_or coins 0 0) (words (content n (row_of store o))) req.arrives req.arrives_as) req.row
         ∙ arrives_words n (get_or coins 0 0) (words (content n (row_of store o))) req.arrives req.arrives_as
 
     others : (m : ℕ) → (m ≡ n → ⊥) → content m (row_of store o') ≡ content m (row_of store o)
     others =
-        kept_others o.depth (maps.leaves o.below) (row_of store o) (row_of store o') n (get_or coins 0 0) req.arrives
+        kept_others o.front.row.depth (maps.leaves o.front.below) (row_of store o) (row_of store o') n (get_or coins 0 0) req.arrives
         (get_or coins 1 0 ∷ get_or coins 2 0 ∷ []) w.ordered.1 p.number fits room
         (arrives_named n (get_or coins 0 0) (words (content n (row_of store o))) req.arrives req.arrives_as) req.row
 
-    own_leaves : OwnLeaves (records_of maps o) (maps.rows o.below)
-    own_leaves = (maps.facts o.below).own_leaves (none_unfit _ (maps.unfit o.below) p.fit).0
+    own_leaves : OwnLeaves (records_of maps o) (maps.rows o.front.below)
+    own_leaves = (maps.facts o.front.below).own_leaves (none_unfit _ (maps.unfit o.front.below) p.fit).0
 
     follow : AllFollow (rows_of store maps o') (request n ∷ deeds h) (coins ∷ coins_of h)
     follow =
         let P : List MapRow → Type 0 = λ rows. AllFollow rows (request n ∷ deeds h) (coins ∷ coins_of h) in
         subst P (sym req.rows)
-        (request_follows _ (maps.rows o.below) n coins (deeds h) (coins_of h) own_leaves p.number
+        (request_follows _ (maps.rows o.front.below) n coins (deeds h) (coins_of h) own_leaves p.number
         (λ r l. record { log = w.logs r l; leaves = λ m k. w.leaves r m l k }))
 
     -- a record that is kept
@@ -146,10 +147,10 @@ module _ {K S P F : Type 0} (kind : KindMeaning K) (store : StoreMeaning S) (map
     opening_works : (x : Option K) → Done kind store maps coins o o' opening (did x) → None ≡ refusal_of store maps o opening coins
         → Worked kind store maps (turn_of opening coins (did x) ∷ h) o'
     opening_works x d e =
-        let t1 = both_none (naming 1 (unfit_of store maps o)) _ (sym e) in
-        let t4 = both_none (unless (ltb o.opened N) _) _ t1.1 in
-        let time : o.opened < N = ltb-true o.opened N (test_passed _ _ t4.0) in
-        let p = swap_passed (maps.leaves o.below) (rows_of store maps o) (unfit_of store maps o) (full_of maps o) o.opened 0 coins t4.1 in
+        let t1 = or-none (naming 1 (unfit_of store maps o)) _ e in
+        let t4 = or-none (unless (ltb o.opened N) _) _ t1.1 in
+        let time : o.opened < N = ltb-true o.opened N (unless-none _ _ t4.0) in
+        let p = swap_passed (maps.leaves o.front.below) (rows_of store maps o) (unfit_of store maps o) (full_of maps o) o.opened 0 coins t4.1 in
         let A : ℕ → Type 0 = λ k. AllFollow (rows_of store maps o') (request k ∷ deeds h) (coins ∷ coins_of h) in
         let f = subst A w.opened (follow frame d.ordered o.opened (λ ws. ws) d.work p h w) in
         record {
@@ -163,13 +164,13 @@ module _ {K S P F : Type 0} (kind : KindMeaning K) (store : StoreMeaning S) (map
 
     -- what a get or a put tells that was not refused
     pub in_time : (n : ℕ) → None ≡ or_else (naming 1 (unfit_of store maps o)) (or_else (ask_time N o.opened n) (request_refusal store maps o n coins))
-        → ((opened h ≡ N) × (n < N)) × SwapPassed (maps.leaves o.below) (rows_of store maps o) (unfit_of store maps o) (full_of maps o) n coins
+        → ((opened h ≡ N) × (n < N)) × SwapPassed (maps.leaves o.front.below) (rows_of store maps o) (unfit_of store maps o) (full_of maps o) n coins
     in_time n e =
-        let t1 = both_none (naming 1 (unfit_of store maps o)) _ (sym e) in
-        let t = both_none (ask_time N o.opened n) _ t1.1 in
-        let t2 = both_none (unless (ltb n N) _) (unless (eqb o.opened N) _) t.0 in
-        let all : o.opened ≡ N = eqb-true _ _ (test_passed _ _ t2.1) in
-        let p = swap_passed (maps.leaves o.below) (rows_of store maps o) (unfit_of store maps o) (full_of maps o) n 0 coins t.1 in
+        let t1 = or-none (naming 1 (unfit_of store maps o)) _ e in
+        let t = or-none (ask_time N o.opened n) _ t1.1 in
+        let t2 = or-none (unless (ltb n N) _) (unless (eqb o.opened N) _) t.0 in
+        let all : o.opened ≡ N = eqb-true _ _ (unless-none _ _ t2.1) in
+        let p = swap_passed (maps.leaves o.front.below) (rows_of store maps o) (unfit_of store maps o) (full_of maps o) n 0 coins t.1 in
         ((sym w.opened ∙ all, p.number), p)
 
     -- a get
@@ -208,7 +209,7 @@ module _ {K S P F : Type 0} (kind : KindMeaning K) (store : StoreMeaning S) (map
     draining_works : (x : Option K) → Done kind store maps coins o o' draining (did x) → None ≡ refusal_of store maps o draining coins
         → Worked kind store maps (turn_of draining coins (did x) ∷ h) o'
     draining_works x d e =
-        let p = drain_passed (rows_of store maps o) (unfit_of store maps o) coins (sym e) in
+        let p = drain_passed (rows_of store maps o) (unfit_of store maps o) coins e in
         let A : List MapRow → Type 0 = λ rows. AllFollow rows (drain ∷ deeds h) (coins ∷ coins_of h) in
         let f = subst A (sym d.work.rows)
         (drain_follows (rows_of store maps o) coins (deeds h) (coins_of h) (λ r l. record { log = w.logs r l; leaves = λ m k. w.leaves r m l k })) in
@@ -219,7 +220,7 @@ module _ {K S P F : Type 0} (kind : KindMeaning K) (store : StoreMeaning S) (map
           opened = d.opened ∙ w.opened;
           array = keeps_array
               (λ m. ap (option_map kind.made)
-              (ap (content m) d.work.row ∙ order_kept.drain_holds o.depth (get_or coins 0 0) (maps.leaves o.below) (row_of store o) w.ordered.1 m));
+              (ap (content m) d.work.row ∙ order_kept.drain_holds o.front.row.depth (get_or coins 0 0) (maps.leaves o.front.below) (row_of store o) w.ordered.1 m));
           can = can_go_on (turn_of draining coins (did x)) (tt, p.right);
         }
 
@@ -236,7 +237,7 @@ module _ {K S P F : Type 0} (kind : KindMeaning K) (store : StoreMeaning S) (map
           opened = d.opened ∙ w.opened;
           array = keeps_array
               (λ m. ap (λ row. option_map kind.made (content m row))
-              (ap (λ bs. decoded_row bs o'.queue) d.work.buckets ∙ ap (decoded_row (store.buckets o.store)) d.work.queue));
+              (ap (λ bs. decoded_row bs o'.front.row.queue) d.work.buckets ∙ ap (decoded_row (store.buckets o.front.row.store)) d.work.queue));
           can = can_go_on (turn_of tearing coins (did x)) (tt, tt);
         }
 

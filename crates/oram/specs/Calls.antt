@@ -1,6 +1,7 @@
 -- What each call of an Oram does: one relation between the Oram before and the Oram after.
 use Rattle.std.specs.Prelude.{◌≡◌, ℕ, Bool, true, false, List, [], ◌∷◌, length, drop, Some, None, Ok, Err, Option, Result, ◌==◌, nat_lt, slice_index}
 use Rattle.tree.specs.declared.block.Block.{Block}
+use Rattle.row.specs.Requests.{ArrivesAs}
 use Rattle.steps.specs.Order.{content}
 use Rattle.steps.specs.Steps.{dequeued, fetched, second_half}
 use Rattle.record.specs.declared.kind.RecordKind.{Ghosts as KindMeaning}
@@ -43,7 +44,7 @@ done card (Err f) = refused (card_in card f)
 -- a request for record n is refused as a swap is, by the map's own definition with row 0 in front
 abbrev pub request_refusal : {K S P F : Type 0} → StoreMeaning S → MapMeaning P F → Oram K S P → ℕ → List ℕ → Option Card
 request_refusal store map o n coins =
-    swap_refusal (map.leaves o.below) (rows_of store map o) (unfit_of store map o) (full_of map o) n 0 coins
+    swap_refusal (map.leaves o.front.below) (rows_of store map o) (unfit_of store map o) (full_of map o) n 0 coins
 
 -- an open comes in time while records are left to open; a get or a put names a record that there is, once all are opened
 abbrev pub open_time : ℕ → ℕ → Option Card
@@ -87,13 +88,6 @@ answer_of (putting n y) x = x
 answer_of draining x = None
 answer_of tearing x = None
 
--- a block arrives with these words under number n and with its new leaf; without words nothing does
-abbrev pub ArrivesAs : ℕ → ℕ → Option (List ℕ) → Option Block → Type 0
-ArrivesAs n leaf None None = Unit {0}
-ArrivesAs n leaf None (Some b) = ⊥
-ArrivesAs n leaf (Some words) None = ⊥
-ArrivesAs n leaf (Some words) (Some b) = (b.number.0 ≡ n) × (b.leaf.0 ≡ leaf) × (b.words ≡ words)
-
 -- every row is asked: row 0 for the record, each further one for the number divided once more, with its share of the coins
 abbrev pub rows_requested : List MapRow → ℕ → List ℕ → List MapRow
 rows_requested [] n coins = []
@@ -108,22 +102,22 @@ module _ {K S P F : Type 0} (kind : KindMeaning K) (store : StoreMeaning S) (map
     pub arrives : Option Block
     pub arrives_as : ArrivesAs n (slice_index coins 0) (words (content n (row_of store o))) arrives
     pub row : row_of store o'
-        ≡ second_half o.depth arrives (slice_index coins 1 ∷ slice_index coins 2 ∷ [])
-        (fetched o.depth n (slice_index (map.leaves o.below) n) (row_of store o))
+        ≡ second_half o.front.row.depth arrives (slice_index coins 1 ∷ slice_index coins 2 ∷ [])
+        (fetched o.front.row.depth n (slice_index (map.leaves o.front.below) n) (row_of store o))
     -- and all that this very map does
-    pub below : map.swapped o.below n (slice_index coins 0) (drop coins_per_request coins) o'.below
+    pub below : map.swapped o.front.below n (slice_index coins 0) (drop coins_per_request coins) o'.front.below
 
   -- one dequeue in every row
   pub record Drained : Type 0 where
     pub rows : rows_of store map o' ≡ rows_drained (rows_of store map o) coins
-    pub row : row_of store o' ≡ dequeued o.depth (slice_index coins 0) (row_of store o)
-    pub below : map.drained o.below (drop coins_per_drain coins) o'.below
+    pub row : row_of store o' ≡ dequeued o.front.row.depth (slice_index coins 0) (row_of store o)
+    pub below : map.drained o.front.below (drop coins_per_drain coins) o'.front.below
 
   -- every log emptied, and nothing else changed
   pub record TornOff : Type 0 where
     pub rows : rows_of store map o' ≡ rows_torn (rows_of store map o)
-    pub buckets : store.buckets o'.store ≡ store.buckets o.store
-    pub queue : o'.queue ≡ o.queue
+    pub buckets : store.buckets o'.front.row.store ≡ store.buckets o.front.row.store
+    pub queue : o'.front.row.queue ≡ o.front.row.queue
     pub full : full_of map o' ≡ full_of map o
 
   -- the work of an accepted call
@@ -136,9 +130,9 @@ module _ {K S P F : Type 0} (kind : KindMeaning K) (store : StoreMeaning S) (map
 
   -- what no call changes: N, every row's depth, span and count of own leaves, the unfit row, and the count of buckets
   pub record Frame : Type 0 where
-    pub rows : SameFrame (map.leaves o.below) (map.leaves o'.below) (rows_of store map o) (rows_of store map o')
+    pub rows : SameFrame (map.leaves o.front.below) (map.leaves o'.front.below) (rows_of store map o) (rows_of store map o')
         (unfit_of store map o) (unfit_of store map o')
-    pub buckets : length (store.buckets o'.store) ≡ length (store.buckets o.store)
+    pub buckets : length (store.buckets o'.front.row.store) ≡ length (store.buckets o.front.row.store)
 
   -- an accepted call of an Oram in order
   pub record Done (call : Call K) (outcome : Outcome K) : Type 0 where

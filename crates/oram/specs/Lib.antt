@@ -2,6 +2,5 @@ pub mod Faults
 pub mod Orams
 pub mod Calls
 pub mod Worked
-pub mod Rows
 pub mod Requests
 pub mod Runs

@@ -15,7 +15,7 @@ use Rattle.oram.specs.Orams.{Ordered, row_of}
 
 -- the card's place of an answer: none where the call is accepted
 abbrev pub oram_card : {F T : Type 0} → CardMeaning F → Result T (OramFault F) → Option Card
-oram_card card r = card_of (oram_number card.number_of) (oram_row card.row_of) r
+oram_card card r = card_of (record { number_of = oram_number card.number_of; row_of = oram_row card.row_of }) r
 
 -- a request for record n in time, where these words are put, if any
 pub record Asks {K S P F : Type 0} (kind : KindMeaning K) (store : StoreMeaning S) (map : MapMeaning P F) (card : CardMeaning F)

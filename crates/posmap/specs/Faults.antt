@@ -1,5 +1,6 @@
 -- The number and the row of each fault on the card of refusals.
 use Rattle.std.specs.Prelude.{ℕ, ◌+◌, min}
+use Rattle.card.specs.declared.fault.CardFault.{Ghosts as CardMeaning}
 use Rattle.posmap.specs.declared.fault.FlatFault.{FlatFault}
 use Rattle.posmap.specs.declared.fault.FlatFault.TheVariants as flat
 use Rattle.posmap.specs.declared.fault.LevelFault.{LevelFault}
@@ -44,3 +45,10 @@ level_row row level.LogFull = 0
 level_row row level.QueueFull = 0
 level_row row (level.NoEntry asked) = asked
 level_row row (level.Below fault) = min last_row (row fault + 1)
+
+-- what the faults of a flat map mean on the card, and those of a level over what the lower ones mean
+abbrev pub flat_card : CardMeaning FlatFault
+flat_card = record { number_of = flat_number; row_of = flat_row }
+
+abbrev pub level_card : {F : Type 0} → CardMeaning F → CardMeaning (LevelFault F)
+level_card card = record { number_of = level_number card.number_of; row_of = level_row card.row_of }

@@ -1,3 +1,4 @@
 pub mod Faults
 pub mod Flat
 pub mod Maps
+pub mod Wholes

@@ -1,5 +1,6 @@
 -- What a position map means, and how its calls are refused: on the meaning alone.
 use Rattle.std.specs.Prelude.{◌≡◌, ℕ, zero, suc, ◌+◌, ◌-◌, ◌*◌, ◌/◌, ◌^◌, ◌<◌, ◌≤◌, min, Bool, true, false, ◌&&◌, List, [], ◌∷◌, ◌++◌, length, drop, replicate, IfSome, Some, None, Ok, Err, Option, Result, ◌==◌, nat_le, nat_lt, slice_index, slice_index_or, slice_set}
+use Rattle.card.specs.declared.fault.CardFault.{Ghosts as CardMeaning}
 use Rattle.tree.specs.declared.numbers.Leaf.{Leaf}
 use Rattle.tree.specs.Blocks.{capacity}
 use Rattle.tree.specs.Entries.{drain_entries, drain_moves, request_entries, request_moves}
@@ -92,9 +93,9 @@ drain_refusal rows unfit coins =
     (or_else (leaf_refusal coins_per_drain 0 rows coins) (log_refusal drain_moves 0 rows)))
 
 -- the card's place of an answer: none where the call is accepted
-abbrev pub card_of : {F T : Type 0} → (F → ℕ) → (F → ℕ) → Result T F → Option Card
-card_of number row (Ok x) = None
-card_of number row (Err f) = Some (record { number = number f; row = row f })
+abbrev pub card_of : {F T : Type 0} → CardMeaning F → Result T F → Option Card
+card_of card (Ok x) = None
+card_of card (Err f) = Some (record { number = card.number_of f; row = card.row_of f })
 
 -- what a request for number j does to a row's own leaves and log
 abbrev pub row_swapped : MapRow → ℕ → List ℕ → MapRow

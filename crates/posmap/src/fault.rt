@@ -37,7 +37,7 @@ impl CardFault for FlatFault {
     }
 }
 
-// What a level refuses by itself, and what the map below it refuses, held whole.
+// What a row in front of a map refuses by itself, as a level is and an Oram's row 0, and what the map below refuses, held whole.
 #[derive(Clone, Copy, PartialEq, Eq, Debug, Drop)]
 pub enum LevelFault<F> {
     Unfit,

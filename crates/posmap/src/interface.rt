@@ -5,6 +5,9 @@ ghost use Rattle.posmap.specs.Maps.{DrainDone, MapFacts, MapRow, SameFrame, Same
 use card::fault::CardFault;
 use tree::numbers::{BucketNumber, Leaf, RecordNumber};
 
+// The widest leaf that a map may be given: no row is deeper than 12.
+pub const WIDEST_LEAF: u32 = 4095;
+
 // Within this trait a log can only grow: what works a request is bounded by it alone, and so cannot take an entry back.
 pub trait PositionMap {
     type Fault: CardFault + Drop;
@@ -39,7 +42,7 @@ pub trait PositionMap {
         leaf: Leaf,
         coins: &[Leaf],
     ) -> Result<(), Self::Fault>
-        ensures { card_of Self.Fault.CardFault.number_of Self.Fault.CardFault.row_of result ≡ swap_refusal (leaves self.now) (rows self.now) (unfit self.now) (full self.now) number.0 leaf.0 (leaf_numbers coins.now) };
+        ensures { card_of Self.Fault.CardFault result ≡ swap_refusal (leaves self.now) (rows self.now) (unfit self.now) (full self.now) number.0 leaf.0 (leaf_numbers coins.now) };
 
     // Answers the leaf of a number and puts a new one there; each row does a request.
     fn swap(
@@ -48,7 +51,7 @@ pub trait PositionMap {
         leaf: Leaf,
         coins: &[Leaf],
     ) -> Result<Leaf, Self::Fault>
-        ensures card { card_of Self.Fault.CardFault.number_of Self.Fault.CardFault.row_of result ≡ swap_refusal (leaves self.old) (rows self.old) (unfit self.old) (full self.old) number.0 leaf.0 (leaf_numbers coins.now) }
+        ensures card { card_of Self.Fault.CardFault result ≡ swap_refusal (leaves self.old) (rows self.old) (unfit self.old) (full self.old) number.0 leaf.0 (leaf_numbers coins.now) }
         ensures frame { SameFrame (leaves self.old) (leaves self.new) (rows self.old) (rows self.new) (unfit self.old) (unfit self.new) }
         ensures order { ordered self.old → ordered self.new }
         ensures refused { is_err result ≡ true → SameMeaning (leaves self.old) (leaves self.new) (rows self.old) (rows self.new) (full self.old) (full self.new) }
@@ -57,11 +60,11 @@ pub trait PositionMap {
 
     // How a drain would be refused. Changes nothing.
     fn trial_drain(&self, coins: &[Leaf]) -> Result<(), Self::Fault>
-        ensures { card_of Self.Fault.CardFault.number_of Self.Fault.CardFault.row_of result ≡ drain_refusal (rows self.now) (unfit self.now) (leaf_numbers coins.now) };
+        ensures { card_of Self.Fault.CardFault result ≡ drain_refusal (rows self.now) (unfit self.now) (leaf_numbers coins.now) };
 
     // One dequeue in every row.
     fn drain(&mut self, coins: &[Leaf]) -> Result<(), Self::Fault>
-        ensures card { card_of Self.Fault.CardFault.number_of Self.Fault.CardFault.row_of result ≡ drain_refusal (rows self.old) (unfit self.old) (leaf_numbers coins.now) }
+        ensures card { card_of Self.Fault.CardFault result ≡ drain_refusal (rows self.old) (unfit self.old) (leaf_numbers coins.now) }
         ensures frame { SameFrame (leaves self.old) (leaves self.new) (rows self.old) (rows self.new) (unfit self.old) (unfit self.new) }
         ensures order { ordered self.old → ordered self.new }
         ensures refused { is_err result ≡ true → SameMeaning (leaves self.old) (leaves self.new) (rows self.old) (rows self.new) (full self.old) (full self.new) }
@@ -88,7 +91,7 @@ pub trait PositionMap {
 
     // Entry k of a row's log, counted from 0, the oldest.
     fn row_entry(&self, row: u8, k: u32) -> Result<BucketNumber, Self::Fault>
-        ensures card { card_of Self.Fault.CardFault.number_of Self.Fault.CardFault.row_of result ≡ entry_refusal (rows self.now) row k }
+        ensures card { card_of Self.Fault.CardFault result ≡ entry_refusal (rows self.now) row k }
         ensures value { IfOk result (λ b. b.0 ≡ slice_index (row_at (rows self.now) row).log k) };
 }
 

@@ -1,5 +1,6 @@
 // A swap that is tried first, of any map: the meaning of a map is all that is known here.
-ghost use Rattle.posmap.specs.Maps.{SwapDone, card_of, leaf_numbers, swap_refusal};
+ghost use Rattle.posmap.specs.Maps.{card_of, leaf_numbers};
+ghost use Rattle.posmap.specs.Wholes.{LeafSwapped, swap_refused};
 ghost use Rattle.std.specs.Prelude.{◌≡◌, true, is_err, IfOk, OnOk};
 
 use crate::interface::PositionMap;
@@ -12,10 +13,10 @@ pub fn tried_swap<P: PositionMap>(
     leaf: Leaf,
     coins: &[Leaf],
 ) -> Result<Leaf, P::Fault>
-    ensures card { card_of P.Fault.CardFault.number_of P.Fault.CardFault.row_of result ≡ swap_refusal (P.PositionMap.leaves map.old) (P.PositionMap.rows map.old) (P.PositionMap.unfit map.old) (P.PositionMap.full map.old) number.0 leaf.0 (leaf_numbers coins.now) }
+    ensures card { card_of P.Fault.CardFault result ≡ swap_refused P.PositionMap map.old number.0 leaf.0 (leaf_numbers coins.now) }
     ensures same { is_err result ≡ true → map.new ≡ map.old }
     ensures order { P.PositionMap.ordered map.old → P.PositionMap.ordered map.new }
-    ensures done { P.PositionMap.ordered map.old → IfOk result (λ m. SwapDone (P.PositionMap.leaves map.old) (P.PositionMap.leaves map.new) (P.PositionMap.rows map.old) (P.PositionMap.rows map.new) number.0 leaf.0 (leaf_numbers coins.now) m.0) }
+    ensures done { P.PositionMap.ordered map.old → IfOk result (λ m. LeafSwapped P.PositionMap map.old map.new number.0 leaf.0 (leaf_numbers coins.now) m.0) }
     ensures does { OnOk result (P.PositionMap.swapped map.old number.0 leaf.0 (leaf_numbers coins.now) map.new) }
 {
     map.trial_swap(number, leaf, coins)?;

@@ -3,8 +3,11 @@ use std::process::Abort;
 use std::test::Fail;
 
 fn says(rt: &(impl Abort + AllocGlobal), line: &str, text: &str) -> Result<(), Fail> {
-    let said = answer(rt.alloc(), line)?;
-    assert_eq!(rt; said.text.as_str(), text);
+    let said = match read_depths(rt.alloc(), line) {
+        Ok(depths) => format!(in rt.alloc(); "{depths}")?,
+        Err(bad) => format!(in rt.alloc(); "{bad}\n")?,
+    };
+    assert_eq!(rt; said.as_str(), text);
     Ok(())
 }
 

@@ -1,6 +1,11 @@
 // What every kind of record can do: lay a record out in eight words, and make one from any eight words.
 ghost use Rattle.std.specs.Prelude.{◌≡◌, ℕ, List, length};
 
+use tree::block::BLOCK_WORDS;
+
+// Words of a record: it is a block's words.
+pub const RECORD_WORDS: usize = BLOCK_WORDS;
+
 pub trait RecordKind: Sized {
     // the words of a record
     ghost laid: { Self → List ℕ };
@@ -8,10 +13,10 @@ pub trait RecordKind: Sized {
     // the record that any words give
     ghost made: { List ℕ → Self };
 
-    fn to_words(&self) -> [u32; 8]
+    fn to_words(&self) -> [u32; RECORD_WORDS]
         ensures { result ≡ laid self.now };
 
-    fn from_words(words: [u32; 8]) -> Self
+    fn from_words(words: [u32; RECORD_WORDS]) -> Self
         ensures { result ≡ made words };
 
     // a record is eight words

@@ -1,12 +1,12 @@
 -- A fetch that has gone through the first k buckets of its path, and one bucket more.
-use Rattle.std.proofs.Common.{◌≡◌, ℕ, ◌+◌, ◌≤◌, List, [], ◌∷◌, ◌++◌, Some, None, Option, sym, refl, ap, ◌∙◌, add-one, arith}
-use Rattle.std.proofs.lemmas.List.{append_assoc, append-nil}
+use Rattle.std.proofs.Common.{◌≡◌, ℕ, ◌+◌, ◌*◌, ◌≤◌, List, [], ◌∷◌, ◌++◌, length, Some, None, Option, refl, ap, ◌∙◌, add-one, arith}
+use Rattle.std.proofs.lemmas.List.{append_assoc, length-append}
 use Rattle.std.specs.Option.{option_or}
 use Rattle.tree.specs.declared.block.Block.{Block}
-use Rattle.tree.specs.declared.place.Place.{Place}
 use Rattle.tree.specs.Entries.{fetch_to}
 use Rattle.tree.specs.Paths.{path}
 use Rattle.tree.specs.Places.{taken, without}
+use Rattle.tree.proofs.Counts.{length-fetch_to}
 use Rattle.tree.proofs.PathLaws.{path_positive, path_rises}
 use Rattle.steps.specs.Steps.{Buckets, bucket, cleared_to, found_to, or_else, with_bucket}
 use Rattle.steps.proofs.Rest.{cleared_rest}
@@ -15,23 +15,11 @@ or_is : {X : Type 0} (a b : Option X) → option_or a b ≡ or_else a b
 or_is None b = refl
 or_is (Some x) b = refl
 
--- what a fetch answers: the block on the path, or else the one in the queue
-pub first_found : {X : Type 0} {a b x y r : Option X} → r ≡ option_or a b → a ≡ x → b ≡ y → r ≡ or_else x y
-first_found {a = a} {b = b} e f g = e ∙ (or_is a b ∙ rw (f, g) refl)
-
--- one bucket without the block of number n
-pub fetch_one : (n v : ℕ) {b c d : Buckets} {ps qs : List Place} → c ≡ b → ps ≡ bucket b v → qs ≡ without n ps
-    → d ≡ with_bucket c v qs → d ≡ with_bucket b v (without n (bucket b v))
-fetch_one n v e f g h = h ∙ rw (e, g, f) refl
-
 -- the buckets from b to c, the log from l to k, and the block found so far
 pub record PathFetched (D n m layers : ℕ) (b c : Buckets) (l k : List ℕ) (block : Option Block) : Type 0 where
   pub answer : block ≡ found_to D n m b layers
   pub holds : c ≡ cleared_to D n m b layers
   pub enters : k ≡ l ++ fetch_to D m layers
-
-pub fetch_none : (D n m : ℕ) (b : Buckets) (l : List ℕ) → PathFetched D n m 0 b b l l None
-fetch_none D n m b l = record { answer = refl; holds = refl; enters = sym (append-nil l) }
 
 -- the next bucket holds what it held when the fetch began
 fetch_fresh : (D n m layer : ℕ) (b : Buckets) → layer ≤ D
@@ -54,3 +42,9 @@ fetch_more D n m layer v b c d l k j block more h is so answer holds enters =
       holds = rw (add-one layer) (holds ∙ rw (is, so.holds) refl);
       enters = rw (add-one layer) (enters ∙ rw (is, so.enters) (append_assoc l (fetch_to D m layer) _));
     }
+
+-- how many entries there are so far
+pub fetch_used : (D n m layers : ℕ) (b c : Buckets) (l k : List ℕ) (block : Option Block) → PathFetched D n m layers b c l k block
+    → length k ≡ length l + 2 * layers
+fetch_used D n m layers b c l k block so =
+    ap length so.enters ∙ (length-append l (fetch_to D m layers) ∙ ap (λ x. length l + x) (length-fetch_to D m layers))

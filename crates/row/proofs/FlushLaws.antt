@@ -4,7 +4,7 @@ use Rattle.std.proofs.lemmas.List.{append_assoc, get_or-set_same, length-append,
 use Rattle.std.proofs.lemmas.Bool.{and_from, cond-true, le-leb}
 use Rattle.tree.specs.declared.place.Place.{Place}
 use Rattle.tree.specs.Choice.{chosen, moved_child, moved_in, moved_parent, moving}
-use Rattle.tree.specs.Entries.{dequeue_entries, flush_entries, flush_to, put_back_entries}
+use Rattle.tree.specs.Entries.{flush_entries, flush_to}
 use Rattle.tree.specs.Paths.{is_leaf, path}
 use Rattle.tree.specs.Places.{emptied}
 use Rattle.tree.proofs.Counts.{length-flush_to}
@@ -17,12 +17,6 @@ use Rattle.steps.proofs.Buckets.{bucket_other}
 pub record PathFlushed (D m layer : ℕ) (b c : Buckets) (l k : List ℕ) (hand : List Place) : Type 0 where
   pub holds : with_bucket c (path D m layer) hand ≡ flushed_to D m b layer
   pub enters : k ≡ l ++ flush_to D m layer
-
--- at most one block moves down to bucket v, which was read, and bucket u is written
-pub flush_one : (D m d : ℕ) {u v s t : ℕ} {b c e : Buckets} (hand : List Place) {kid up next : List Place} → t ≡ v → s ≡ u → c ≡ b
-    → kid ≡ bucket b t → up ≡ moved_parent D m d hand kid → next ≡ moved_child D m d hand kid → e ≡ with_bucket c s up
-    → (next ≡ moved_child D m d hand (bucket b v)) × (e ≡ with_bucket b u (moved_parent D m d hand (bucket b v)))
-flush_one D m d hand t s c kid up next e = (next ∙ rw (kid, t) refl, e ∙ rw (s, c, up, kid, t) refl)
 
 -- the root has been read
 pub flush_none : (D m v : ℕ) (b : Buckets) {c : Buckets} (l : List ℕ) {k : List ℕ} {hand : List Place} → v ≡ path D m 0 → c ≡ b
@@ -89,8 +83,3 @@ module _ (D m layer : ℕ) (b c d : Buckets) (l k j : List ℕ) (hand next : Lis
       → j ≡ k ++ path D m (layer + 1) ∷ path D m layer ∷ []
       → PathFlushed D m (layer + 1) b d l j next
   flush_more = rw (add-one layer) flush_next
-
--- a put-back and a flush make the entries of a dequeue
-pub dequeue_enters : (D m : ℕ) (l : List ℕ) {k j : List ℕ} → k ≡ l ++ put_back_entries → j ≡ k ++ flush_entries D m
-    → j ≡ l ++ dequeue_entries D m
-dequeue_enters D m l e f = f ∙ (ap (λ x. x ++ flush_entries D m) e ∙ append_assoc l put_back_entries (flush_entries D m))

@@ -1,4 +1,5 @@
 pub mod FetchLaws
 pub mod FlushLaws
-pub mod PutBackLaws
+pub mod HalfLaws
 pub mod RowLaws
+pub mod TrialLaws

@@ -1,3 +1,4 @@
 pub mod Faults
+pub mod Requests
 pub mod Rows
 pub mod Trials

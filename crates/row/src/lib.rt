@@ -2,8 +2,13 @@
 #![tactic(auto)]
 
 mod buckets;
+pub mod change;
 pub mod fault;
-pub mod fetching;
-pub mod flushing;
-pub mod queueing;
+mod fetching;
+mod flushing;
+mod halves;
+pub mod moves;
+mod queueing;
+pub mod requests;
+pub mod row;
 pub mod trial;

@@ -1,67 +1,67 @@
 // What every step tests before it moves anything.
-ghost use Rattle.std.specs.Prelude.{◌≡◌, ℕ, ◌^◌, ◌<◌};
-ghost use Rattle.row.specs.Trials.{has_room, is_fit, leaf_fits, refusal};
+ghost use Rattle.std.specs.Prelude.{◌≡◌, ℕ, ◌+◌, ◌^◌, ◌<◌, ◌≤◌, length, IfOk, None, OnOk, Some, nat_le};
+ghost use Rattle.row.specs.Trials.{first_fault, is_fit, refusal_of, tree_buckets};
+ghost use Rattle.std.specs.List.{list_all};
+ghost use Rattle.std.specs.Result.{result_err};
+ghost use Rattle.tree.specs.Paths.{is_leaf};
 
 use crate::fault::RowFault;
+use crate::row::Row;
 use store::interface::BucketStore;
 use tree::numbers::Leaf;
-use tree::paths::{DEEPEST, is_leaf};
-
-// How many blocks a queue may hold.
-const CAPACITY: usize = 32;
+use tree::path::Path;
+use tree::paths::{is_depth, is_leaf};
 
 // Whether there is a tree of that depth, and so many buckets are enough for it.
 pub fn is_fit(depth: u32, count: u32) -> bool
     ensures { result ≡ is_fit depth count }
 {
-    if depth == 0 || depth > DEEPEST {
-        return false;
-    }
-    (1u32 << (depth + 1)) - 1 <= count
+    is_depth(depth) && (1u32 << (depth + 1)) - 1 <= count
 }
 
-// Whether the leaf, where the step has one, is a leaf of the tree.
-fn leaf_fits(depth: u32, leaf: Option<Leaf>) -> bool
-    ensures { result ≡ leaf_fits depth leaf }
+// Whether a tree of that depth has all of these leaves.
+fn are_leaves(depth: u32, leaves: &[Leaf]) -> bool
+    ensures { result ≡ list_all (λ m. is_leaf depth m.0) leaves.now }
 {
-    match leaf {
-        Some(m) => is_leaf(depth, m),
-        None => true,
-    }
+    leaves.iter().all(|leaf| is_leaf(depth, *leaf))
 }
 
-// Whether the queue has room, where something arrives at so many blocks.
-fn has_room(waiting: Option<usize>) -> bool
-    ensures { result ≡ has_room waiting }
-{
-    match waiting {
-        Some(len) => len < CAPACITY,
-        None => true,
+impl<S: BucketStore> Row<S> {
+    // Whether the row's store has enough buckets for a tree of its depth.
+    pub fn is_fit(&self) -> bool
+        ensures { result ≡ is_fit self.now.depth (length (S.BucketStore.buckets self.now.store)) }
+    {
+        is_fit(self.depth, self.store.bucket_count())
     }
-}
 
-// The refusal with the smallest number, if there is one.
-pub(crate) fn refusal<S: BucketStore>(
-    store: &S,
-    depth: u32,
-    leaf: Option<Leaf>,
-    entries: u64,
-    waiting: Option<usize>,
-) -> Option<RowFault>
-    requires { entries < 2 ^ 63 }
-    ensures { result ≡ refusal depth (S.BucketStore.buckets store.now) leaf entries (S.BucketStore.span store.now) (S.BucketStore.log store.now) waiting }
-{
-    if !is_fit(depth, store.bucket_count()) {
-        return Some(RowFault::Unfit);
+    // The refusal with the smallest number, if there is one, of a step that names these leaves and makes so many entries. Where
+    // something arrives, the caller tells whether the queue has room.
+    pub(crate) fn trial(&self, leaves: &[Leaf], entries: u64, room: bool) -> Result<(), RowFault>
+        ensures { result_err result ≡ first_fault (is_fit self.now.depth (length (S.BucketStore.buckets self.now.store))) (list_all (λ m. is_leaf self.now.depth m.0) leaves.now) (nat_le (length (S.BucketStore.log self.now.store) + entries) (S.BucketStore.span self.now.store)) room }
+    {
+        if !self.is_fit() {
+            return Err(RowFault::Unfit);
+        }
+        if !are_leaves(self.depth, leaves) {
+            return Err(RowFault::NoLeaf);
+        }
+        if !self.has_free(entries) {
+            return Err(RowFault::LogFull);
+        }
+        if !room {
+            return Err(RowFault::QueueFull);
+        }
+        Ok(())
     }
-    if !leaf_fits(depth, leaf) {
-        return Some(RowFault::NoLeaf);
+
+    // The path of a leaf, for a step along it that makes so many entries, or that step's refusal.
+    pub(crate) fn along(&self, leaf: Leaf, entries: u64) -> Result<Path, RowFault>
+        ensures answer { result_err result ≡ refusal_of S.BucketStore self.now (Some leaf) entries None }
+        ensures path { IfOk result (λ p. (p.depth ≡ self.now.depth) × (p.leaf ≡ leaf)) }
+        ensures fits { OnOk result (tree_buckets self.now.depth ≤ length (S.BucketStore.buckets self.now.store)) }
+        ensures free { OnOk result (length (S.BucketStore.log self.now.store) + entries ≤ S.BucketStore.span self.now.store) }
+    {
+        self.trial(&[leaf], entries, true)?;
+        Ok(Path::new(self.depth, leaf).unwrap())
     }
-    if u64::from(store.log_used()) + entries > u64::from(store.log_span()) {
-        return Some(RowFault::LogFull);
-    }
-    if !has_room(waiting) {
-        return Some(RowFault::QueueFull);
-    }
-    None
 }

@@ -1,44 +1,45 @@
-use crate::setup::{block, first_place_is, log_is, zeros};
-use row::fault::RowFault;
-use row::fetching::fetch;
-use row::flushing::dequeue;
-use row::queueing::arrive;
-use std::test::Fail;
-use store::table::TableStore;
-use tree::block::Block;
-use tree::numbers::{Leaf, RecordNumber};
-use tree::queue::Queue;
+ghost use Rattle.std.specs.Prelude.{Some, replicate};
 
-// The second half of a request: the block arrives, and then there are two dequeues.
-fn settle(
-    store: &mut TableStore,
-    queue: Queue,
-    depth: u32,
-    block: Block,
-    first: u32,
-    second: u32,
-) -> Result<Queue, RowFault> {
-    let queue = arrive(store, queue, depth, block)?;
-    let queue = dequeue(store, queue, depth, Leaf(first))?;
-    dequeue(store, queue, depth, Leaf(second))
+use crate::setup::{blank_row, first_place_is};
+use rig::answers::log_is;
+use rig::given::block;
+use row::change::Change;
+use row::requests::Ask;
+use std::test::Fail;
+use store::interface::BucketStore;
+use tree::numbers::{Leaf, RecordNumber};
+
+// Eight equal words are put, whatever stood there.
+#[derive(Clone, Copy)]
+struct Put(u32);
+
+impl Change for Put {
+    ghost changed = { λ put found. Some (replicate 8 put.0) };
+
+    fn change(self, _found: Option<[u32; 8]>) -> Option<[u32; 8]> {
+        Some([self.0; 8])
+    }
 }
 
 // Depth 1, shown leaf 0, flush leaves 0 and 1: a block of leaf 1 waits in the root and then goes to bucket 3.
 #[test]
 fn one_request_at_depth_one(rt: HostRuntime) -> Result<(), Fail> {
-    let mut store = zeros(rt.alloc(), 3, 20)?;
-    let fetched = fetch(&mut store, Queue::empty(), 1, RecordNumber(0), Leaf(0))?;
-    assert!(rt; fetched.block.is_none());
-    let queue = settle(&mut store, fetched.queue, 1, block(0, 1, 5), 0, 1)?;
-    assert_eq!(rt; queue.len(), 0);
-    log_is(
-        &rt,
-        &store,
-        &[1, 1, 2, 2, 1, 1, 1, 2, 1, 2, 1, 1, 1, 3, 1, 3],
-    )?;
-    first_place_is(&rt, &mut store, 1, [0, 0, 0]);
-    first_place_is(&rt, &mut store, 2, [0, 0, 0]);
-    first_place_is(&rt, &mut store, 3, [1, 1, 5]);
+    let mut row = blank_row(rt.alloc(), 1, 3, 20)?;
+    assert!(rt; row.fetch(RecordNumber(0), Leaf(0))?.is_none());
+    row.arrive(block(0, 1, 5))?;
+    row.dequeue(Leaf(0))?;
+    row.dequeue(Leaf(1))?;
+    assert_eq!(rt; row.queue.len(), 0);
+    assert!(rt;
+        log_is(
+            row.store.log_used(),
+            |k| row.store.log_entry(k).ok(),
+            &[1, 1, 2, 2, 1, 1, 1, 2, 1, 2, 1, 1, 1, 3, 1, 3],
+        )
+    );
+    first_place_is(&rt, &mut row.store, 1, [0, 0, 0]);
+    first_place_is(&rt, &mut row.store, 2, [0, 0, 0]);
+    first_place_is(&rt, &mut row.store, 3, [1, 1, 5]);
     Ok(())
 }
 
@@ -50,16 +51,50 @@ const DOWN_AND_OUT: [u32; 29] = [
 // Depth 2: a block of leaf 3 goes down to bucket 7 at once, and is found there along leaf 3.
 #[test]
 fn down_and_out_again_at_depth_two(rt: HostRuntime) -> Result<(), Fail> {
-    let mut store = zeros(rt.alloc(), 7, 60)?;
-    let fetched = fetch(&mut store, Queue::empty(), 2, RecordNumber(6), Leaf(0))?;
-    let queue = settle(&mut store, fetched.queue, 2, block(6, 3, 8), 3, 0)?;
-    first_place_is(&rt, &mut store, 7, [7, 3, 8]);
-    let fetched = fetch(&mut store, queue, 2, RecordNumber(6), Leaf(3))?;
-    let Some(found) = fetched.block else {
-        return Err(Fail::new("the block is not found"));
-    };
+    let mut row = blank_row(rt.alloc(), 2, 7, 60)?;
+    row.fetch(RecordNumber(6), Leaf(0))?;
+    row.second_half(Some(block(6, 3, 8)), Leaf(3), Leaf(0))?;
+    first_place_is(&rt, &mut row.store, 7, [7, 3, 8]);
+    let found = row
+        .fetch(RecordNumber(6), Leaf(3))?
+        .ok_or("the block is not found")?;
     assert_eq!(rt; found.leaf.0, 3);
-    log_is(&rt, &store, &DOWN_AND_OUT)?;
-    first_place_is(&rt, &mut store, 7, [0, 0, 0]);
+    assert!(rt;
+        log_is(
+            row.store.log_used(),
+            |k| row.store.log_entry(k).ok(),
+            &DOWN_AND_OUT
+        )
+    );
+    first_place_is(&rt, &mut row.store, 7, [0, 0, 0]);
+    Ok(())
+}
+
+// The same work by one request. Leaf 7 is reduced to leaf 3.
+#[test]
+fn down_and_out_again_by_a_request(rt: HostRuntime) -> Result<(), Fail> {
+    let mut row = blank_row(rt.alloc(), 2, 7, 60)?;
+    let ask = Ask {
+        number: RecordNumber(6),
+        shown: Leaf(0),
+        new: Leaf(3),
+        first: Leaf(3),
+        second: Leaf(0),
+    };
+    assert!(rt; row.request(ask, Put(8))?.is_none());
+    first_place_is(&rt, &mut row.store, 7, [7, 3, 8]);
+    let along = row.in_range(Leaf(7));
+    let found = row
+        .fetch(RecordNumber(6), along)?
+        .ok_or("the block is not found")?;
+    let word = found.words[0];
+    assert_eq!(rt; word, 8);
+    assert!(rt;
+        log_is(
+            row.store.log_used(),
+            |k| row.store.log_entry(k).ok(),
+            &DOWN_AND_OUT
+        )
+    );
     Ok(())
 }

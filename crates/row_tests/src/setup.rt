@@ -1,39 +1,25 @@
 // What the tests share.
+use rig::given::blank_table;
+use row::row::Row;
 use std::alloc::{AllocError, Global};
 use std::process::Abort;
-use std::test::Fail;
 use store::interface::BucketStore;
 use store::table::TableStore;
-use tree::block::Block;
-use tree::numbers::{BucketNumber, Leaf, RecordNumber};
+use tree::numbers::BucketNumber;
+use tree::queue::Queue;
 
-// A table store of zeros.
-pub fn zeros(heap: Global, buckets: usize, span: usize) -> Result<TableStore, AllocError> {
-    let words = vec![in heap; 0u32; buckets.saturating_mul(40)]?;
-    let log = vec![in heap; 0u32; span]?;
-    Ok(TableStore::new(words, log))
-}
-
-pub fn block(number: u32, leaf: u32, word: u32) -> Block {
-    Block {
-        number: RecordNumber(number),
-        leaf: Leaf(leaf),
-        words: [word; 8],
-    }
-}
-
-// The store's log is just this list.
-pub fn log_is(rt: &impl Abort, store: &TableStore, expected: &[u32]) -> Result<(), Fail> {
-    assert_eq!(rt; store.log_used() as usize, expected.len());
-    let mut k = 0;
-    for n in expected {
-        match store.log_entry(k) {
-            Ok(entry) => assert_eq!(rt; entry.0, *n),
-            Err(_) => return Err(Fail::new("an entry is missing")),
-        }
-        k = k.saturating_add(1);
-    }
-    Ok(())
+// A row with an empty queue, over a table store of zeros.
+pub fn blank_row(
+    heap: Global,
+    depth: u32,
+    buckets: u16,
+    span: usize,
+) -> Result<Row<TableStore>, AllocError> {
+    Ok(Row {
+        store: blank_table(heap, buckets, span)?,
+        queue: Queue::empty(),
+        depth,
+    })
 }
 
 // The first three words of a bucket: its place 0 by number plus 1, leaf and first word. Reading it enters it in the log.

@@ -247,7 +247,7 @@ module _ {K S P F : Type 0} (kind : KindMeaning K) (store : StoreMeaning S) (map
           → Some c ≡ refusal_of store maps b.o t.call t.coins → c.number ≡ 8
       second_eight c acc-s e f =
           let not-torn : sort s.call ≡ tears → ⊥ = λ x. never_torn t.call t.coins b.o c f (sym sort_is_same ∙ x) in
-          let ready = accepted_ready store maps a.o s.coins s.call not-torn (sym e) in
+          let ready = accepted_ready store maps a.o s.coins s.call not-torn e in
           let right = accepted_right N Ds h g side m.relabelled j _ _ (history_of before) (history_of before') eh eg acc-s in
           let T : Sort → Type 0 = λ x. Ready store maps x (named t.call) t.coins b.o in
           other_eight t.call t.coins b.o c f
@@ -261,7 +261,7 @@ module _ {K S P F : Type 0} (kind : KindMeaning K) (store : StoreMeaning S) (map
           → Some c ≡ refusal_of store maps a.o s.call s.coins → c.number ≡ 8
       first_eight c ref-s e f =
           let not-torn : sort t.call ≡ tears → ⊥ = λ x. never_torn s.call s.coins a.o c f (sort_is_same ∙ x) in
-          let ready = accepted_ready store maps b.o t.coins t.call not-torn (sym e) in
+          let ready = accepted_ready store maps b.o t.coins t.call not-torn e in
           let coins = refused_same N Ds h g side m.relabelled j _ _ (history_of before) (history_of before') eh eg ref-s in
           let right : RightCoins (sort t.call) (depths_of store maps a.o) s.coins =
           subst (λ ds. RightCoins (sort t.call) ds s.coins) ((shaped_region b.o shaped').1 ∙ sym (shaped_region a.o shaped).1)

@@ -1,5 +1,6 @@
 -- Logs copied out one behind the other.
 use Rattle.std.proofs.Common.{◌≡◌, ℕ, ◌+◌, ◌<◌, ◌≤◌, List, [], ◌∷◌, ◌++◌, map, length, get_or, take, sym, refl, ap, ◌∙◌, arith}
+use Rattle.std.proofs.lemmas.Grind.{flat_map-append}
 use Rattle.std.proofs.lemmas.List.{append_assoc, append-nil, get_or-map, length-map, take_all, take_more}
 use Rattle.posmap.specs.Maps.{MapRow, no_row, row_at}
 use Rattle.secrecy.specs.Seen.{flat, flat_log}
@@ -18,10 +19,6 @@ log_all log base out xs k used e l f u =
     e ∙ (ap (λ x. base ++ x) (take_all k log l)
     ∙ (ap (λ x. x ++ log) f ∙ (append_assoc out (used ∷ []) log ∙ ap (λ n. out ++ n ∷ log) u)))
 
-flat_join : (xs ys : List (List ℕ)) → flat (xs ++ ys) ≡ flat xs ++ flat ys
-flat_join [] ys = refl
-flat_join (x ∷ xs) ys = ap (λ z. flat_log x ++ z) (flat_join xs ys) ∙ sym (append_assoc (flat_log x) (flat xs) (flat ys))
-
 -- one log more
 pub flat_more : (rows : List MapRow) (r : ℕ) (xs ys : List ℕ) → xs ≡ flat (take r (map (λ row. row.log) rows)) → r < length rows
     → ys ≡ xs ++ flat_log (row_at rows r).log → ys ≡ flat (take (r + 1) (map (λ row. row.log) rows))
@@ -32,7 +29,7 @@ flat_more rows r xs ys e l h =
     let log = (row_at rows r).log in
     h ∙ (ap (λ x. x ++ flat_log log) e
     ∙ (ap (λ x. flat (take r logs) ++ x) (sym (append-nil (flat_log log)))
-    ∙ (sym (flat_join (take r logs) (log ∷ []))
+    ∙ (sym (flat_map-append flat_log (take r logs) (log ∷ []))
     ∙ ap flat (ap (λ x. take r logs ++ x ∷ []) (sym (get_or-map (λ row. row.log) rows r no_row [] l)) ∙ sym (take_more logs r [] l')))))
 
 -- all logs

@@ -1,7 +1,6 @@
 // Calls as values, and when two lists of them are alike.
-ghost use Rattle.history.specs.Histories.{sort};
-ghost use Rattle.secrecy.specs.Lists.{LikeCalls, call_in};
-ghost use Rattle.std.specs.Prelude.{◌≡◌, true, false, ◌≢◌};
+ghost use Rattle.secrecy.specs.Lists.{LikeCalls};
+ghost use Rattle.std.specs.Prelude.{◌≡◌, true, false, Decides};
 
 use tree::numbers::RecordNumber;
 
@@ -15,17 +14,35 @@ pub enum Call<K> {
     TearOff,
 }
 
-// Whether two calls are of one sort: a get and a put are.
-fn same_sort<K>(one: &Call<K>, other: &Call<K>) -> bool
-    ensures yes { result ≡ true → sort (call_in one.now) ≡ sort (call_in other.now) }
-    ensures no { result ≡ false → sort (call_in one.now) ≢ sort (call_in other.now) }
-{
-    match (one, other) {
-        (Call::Open, Call::Open) => true,
-        (Call::Get(_) | Call::Put(_, _), Call::Get(_) | Call::Put(_, _)) => true,
-        (Call::Drain, Call::Drain) => true,
-        (Call::TearOff, Call::TearOff) => true,
-        _ => false,
+// What a call is, whatever it names and puts: a get and a put are of one sort.
+#[derive(Clone, Copy, PartialEq, Eq)]
+enum Sort {
+    Open,
+    Ask,
+    Drain,
+    TearOff,
+}
+
+impl<K> Call<K> {
+    ghost use Rattle.history.specs.Histories.{sort};
+    ghost use Rattle.secrecy.specs.Lists.{call_in};
+    ghost use Rattle.secrecy.specs.Sorts.{sort_in};
+
+    fn sort(&self) -> Sort
+        ensures { sort_in result ≡ sort (call_in self.now) }
+    {
+        match self {
+            Call::Open => Sort::Open,
+            Call::Get(_) | Call::Put(_, _) => Sort::Ask,
+            Call::Drain => Sort::Drain,
+            Call::TearOff => Sort::TearOff,
+        }
+    }
+
+    fn is_like(&self, other: &Self) -> bool
+        ensures { Decides result (sort (call_in self.now) ≡ sort (call_in other.now)) }
+    {
+        self.sort() == other.sort()
     }
 }
 
@@ -34,13 +51,9 @@ pub fn are_alike<K>(first: &[Call<K>], second: &[Call<K>]) -> bool
     ensures yes { result ≡ true → LikeCalls first.now second.now }
     ensures no { result ≡ false → LikeCalls first.now second.now → ⊥ }
 {
-    if first.len() != second.len() {
-        return false;
-    }
-    for i in 0..first.len() {
-        if !same_sort(&first[i], &second[i]) {
-            return false;
-        }
-    }
-    true
+    first.len() == second.len()
+        && first
+            .iter()
+            .zip(second)
+            .all(|(one, other)| one.is_like(other))
 }

@@ -1,12 +1,13 @@
 -- A fetch takes out exactly the blocks of its number, and answers the first of them.
-use Rattle.std.proofs.Common.{◌≡◌, ℕ, zero, suc, ◌+◌, ◌-◌, ◌<◌, ◌≤◌, Bool, true, false, cond, not, ◌&&◌, eqb, List, [], ◌∷◌, ◌++◌, Some, None, Option, sym, refl, ap, ◌∙◌, inl, inr, arith}
-use Rattle.std.proofs.lemmas.Bool.{and_parts, not-true, cases_lt}
+use Rattle.std.proofs.Common.{◌≡◌, ℕ, zero, suc, ◌+◌, ◌-◌, ◌<◌, ◌≤◌, Bool, true, false, cond, not, ◌&&◌, eqb, ltb, List, [], ◌∷◌, ◌++◌, length, Some, None, Option, sym, refl, ap, ◌∙◌, inl, inr, arith}
+use Rattle.std.proofs.lemmas.Bool.{and_parts, cond-true, lt-ltb, not-true, cases_lt}
 use Rattle.std.proofs.lemmas.Bool.Decides.{nat_tests}
+use Rattle.std.specs.List.{position, position_or_len}
 use Rattle.tree.specs.declared.block.Block.{Block}
 use Rattle.tree.specs.declared.place.Place.{Place}
 use Rattle.tree.specs.Blocks.{numbered, apart, block_of, others}
 use Rattle.tree.specs.Paths.{path}
-use Rattle.tree.specs.Places.{has_block, block_in, blocks_in, first_from, holds, place_of, emptied, block_at, without, taken}
+use Rattle.tree.specs.Places.{has_block, block_in, blocks_in, holds, place_of, emptied, block_at, without, taken}
 use Rattle.tree.proofs.PathLaws.{path_positive, path_rises}
 use Rattle.steps.specs.Steps.{Buckets, bucket, or_else, cleared_to, found_to}
 use Rattle.steps.specs.Laws.{path_blocks, FetchTakesExactly}
@@ -19,14 +20,21 @@ abbrev later : Option ℕ → Option ℕ
 later None = None
 later (Some i) = Some (suc i)
 
-first_later : {X : Type 0} (test : X → Bool) (k : ℕ) (xs : List X) → first_from test (suc k) xs ≡ later (first_from test k xs)
-first_later test k [] = refl
-first_later test k (x ∷ xs) = go (test x) (first_later test (suc k) xs)
+-- the first that passes, by the first element and the others
+position-cons : {X : Type 0} (test : X → Bool) (x : X) (xs : List X) → position test (x ∷ xs) ≡ cond (test x) (Some 0) (later (position test xs))
+position-cons test x xs = go (test x) (position_or_len test xs) (length xs)
   where
-    go : (b : Bool) → first_from test (suc (suc k)) xs ≡ later (first_from test (suc k) xs)
-        → cond b (Some (suc k)) (first_from test (suc (suc k)) xs) ≡ later (cond b (Some k) (first_from test (suc k) xs))
-    go true h = refl
-    go false h = h
+    below : (n m : ℕ) → ltb (1 + n) (suc m) ≡ ltb n m
+    below n m = grind (arith, nat_tests)
+
+    behind : (b : Bool) (n : ℕ) → cond b (Some (1 + n)) None ≡ later (cond b (Some n) None)
+    behind true n = ap Some (let e : 1 + n ≡ suc n = omega arith in e)
+    behind false n = refl
+
+    go : (b : Bool) (n m : ℕ) → cond (ltb (cond (not b) (1 + n) 0) (suc m)) (Some (cond (not b) (1 + n) 0)) None
+        ≡ cond b (Some 0) (later (cond (ltb n m) (Some n) None))
+    go true n m = cond-true _ (Some 0) None (lt-ltb 0 (suc m) (omega arith))
+    go false n m = ap (λ b. cond b (Some (1 + n)) None) (below n m) ∙ behind (ltb n m) n
 
 emptied_later : (p : Place) (ps : List Place) (o : Option ℕ) → emptied (p ∷ ps) (later o) ≡ p ∷ emptied ps o
 emptied_later p ps None = refl
@@ -42,7 +50,7 @@ holds_is mark n = grind (arith, nat_tests)
 -- where a place of the number n stands, by the first place and the others
 place_of-cons : (n : ℕ) (p : Place) (ps : List Place)
     → place_of n (p ∷ ps) ≡ cond (has_block p && numbered n (block_in p)) (Some 0) (later (place_of n ps))
-place_of-cons n p ps = rw (holds_is p.mark n, first_later (holds n) 0 ps)
+place_of-cons n p ps = position-cons (holds n) p ps ∙ ap (λ b. cond b (Some 0) (later (place_of n ps))) (holds_is p.mark n)
 
 taken-block_of : (n : ℕ) (ps : List Place) → taken n ps ≡ block_of n (blocks_in ps)
 taken-block_of n [] = refl

@@ -1,30 +1,46 @@
 -- Entries laid out in a tail, and what a tail tells of them.
-use Rattle.std.proofs.Common.{◌≡◌, ℕ, zero, suc, ◌+◌, ◌-◌, ◌*◌, ◌<◌, ◌≤◌, List, [], ◌∷◌, ◌++◌, length, get_or, take, drop, set, sym, refl, ap, ◌∙◌, arith}
-use Rattle.std.proofs.lemmas.List.{append_assoc, drop-drop, drop_at, drop-set-lt, drop-take, get_or-append_right, get_or_at, get_or-take, length-set, length-take-le, take_at, take_more_set, take-take}
+use Rattle.std.proofs.Common.{◌≡◌, ℕ, zero, suc, ◌+◌, ◌-◌, ◌*◌, ◌<◌, ◌≤◌, List, [], ◌∷◌, ◌++◌, length, get_or, take, drop, sym, refl, ap, ◌∙◌, add-zero, arith}
+use Rattle.std.proofs.lemmas.List.{drop-drop, drop_at, drop-take, get_or-append_right, get_or-drop, get_or_at, get_or-take, length-take-le, take_at, take-take}
 use Rattle.store.specs.Layout.{overwritten}
 use Rattle.store.specs.Stores.{bucket_words}
-use Rattle.store.specs.Tails.{entry_words, kind_at, number_at, numbers_in, replayed, after_entry, words_at}
-
--- one word written and then more behind it are written at once
-pub overwritten_more : (xs : List ℕ) (a y : ℕ) (ys : List ℕ) → a < length xs
-    → overwritten (set xs a y) (a + 1) ys ≡ overwritten xs a (y ∷ ys)
-overwritten_more xs a y ys h =
-    let rest = drop (a + 1 + length ys) (set xs a y) in
-    let far : a + 1 + length ys ≡ a + length (y ∷ ys) = omega arith in
-    ap (λ z. z ++ (ys ++ rest)) (take_more_set xs a y h) ∙ append_assoc (take a xs) (y ∷ []) (ys ++ rest)
-    ∙ ap (λ z. take a xs ++ (y ∷ (ys ++ z)))
-    (drop-set-lt (a + 1 + length ys) xs a y (omega arith) ∙ ap (λ n. drop n xs) far)
-
-pub entry_laid : (xs : List ℕ) (a x y : ℕ) (ys zs : List ℕ) → a + 2 + length ys ≤ length xs
-    → zs ≡ overwritten (set (set xs a x) (a + 1) y) (a + 2) ys → zs ≡ overwritten xs a (x ∷ y ∷ ys)
-entry_laid xs a x y ys zs h z =
-    let two : a + 2 ≡ a + 1 + 1 = omega arith in
-    z ∙ ap (λ b. overwritten (set (set xs a x) (a + 1) y) b ys) two
-    ∙ overwritten_more (set xs a x) (a + 1) y ys (omega (arith, length-set xs a x)) ∙ overwritten_more xs a x (y ∷ ys) (omega arith)
+use Rattle.store.specs.Tails.{entry_words, kind_at, number_at, is_write_of, numbers_in, replayed, after_entry, words_at}
 
 -- the front of a list that is written over behind it
 pub take_overwritten_front : (xs : List ℕ) (a : ℕ) (ys : List ℕ) → a ≤ length xs → take a (overwritten xs a ys) ≡ take a xs
 take_overwritten_front xs a ys h = take_at (take a xs) _ a (length-take-le a xs h)
+
+-- entry k, cut out of its tail, is a tail of one entry that tells the same
+module _ (t : List ℕ) (k : ℕ) where
+  abbrev pub cut : List ℕ
+  cut = take entry_words (drop (entry_words * k) t)
+
+  word_cut : (i : ℕ) → i < entry_words → get_or cut i 0 ≡ get_or t (entry_words * k + i) 0
+  word_cut i h = get_or-take entry_words (drop (entry_words * k) t) i 0 h ∙ get_or-drop (entry_words * k) t i 0
+
+  pub kind_cut : kind_at cut 0 ≡ kind_at t k
+  kind_cut = word_cut 0 (omega arith) ∙ ap (λ i. get_or t i 0) (add-zero (entry_words * k))
+
+  pub number_cut : number_at cut 0 ≡ number_at t k
+  number_cut = word_cut 1 (omega arith)
+
+  pub words_cut : words_at cut 0 ≡ words_at t k
+  words_cut =
+      ap (take bucket_words) (drop-take 2 bucket_words (drop (entry_words * k) t))
+      ∙ take-take bucket_words bucket_words (drop 2 (drop (entry_words * k) t)) (omega arith)
+      ∙ ap (take bucket_words) (drop-drop 2 (entry_words * k) t)
+
+  pub after_cut : (bs : List (List ℕ)) → after_entry cut 0 bs ≡ after_entry t k bs
+  after_cut bs =
+      let kind = kind_cut in
+      let number = number_cut in
+      let words = words_cut in
+      cc
+
+  pub write_cut : (n : ℕ) → is_write_of cut 0 n ≡ is_write_of t k n
+  write_cut n =
+      let kind = kind_cut in
+      let number = number_cut in
+      cc
 
 -- an entry is told by the words up to its end
 module _ (t u : List ℕ) (k : ℕ) (same : take (entry_words * suc k) t ≡ take (entry_words * suc k) u) where

@@ -1,16 +1,15 @@
 -- A transfer added to a tail.
-use Rattle.std.proofs.Common.{◌≡◌, ℕ, ◌+◌, ◌*◌, ◌<◌, ◌≤◌, true, false, ◌&&◌, eqb, ltb, leb, List, [], ◌∷◌, ◌++◌, length, get_or, drop, Some, None, Ok, Err, unwrap_or, sym, ap, ◌∙◌, subst, add-one, arith}
-use Rattle.std.proofs.lemmas.List.{get_or_read}
+use Rattle.std.proofs.Common.{◌≡◌, ℕ, ◌+◌, ◌*◌, ◌<◌, ◌≤◌, true, false, ◌&&◌, eqb, ltb, leb, List, [], ◌∷◌, ◌++◌, length, drop, Some, None, Ok, Err, unwrap_or, sym, ap, ◌∙◌, add-one, arith}
 use Rattle.std.proofs.lemmas.Bool.{and_from, and_left, and_parts, leb-true, cond-true, cond-false, eq-eqb, ne_eqb, lt-ltb, le-ltb}
 use Rattle.std.specs.Option.{option_map}
 use Rattle.store.specs.declared.fault.StoreFault.TheVariants.{NoEntry}
-use Rattle.store.specs.Layout.{overwritten, buckets_in, bucket_count, laid_out, used_words}
+use Rattle.store.specs.Layout.{KeepsPast, overwritten, buckets_in, bucket_count, laid_out, used_words}
 use Rattle.store.specs.Shapes.{length_numbers, length-replayed, tail_fits}
 use Rattle.store.specs.Stores.{bucket_words, entered, entry_of, is_bucket, replaced}
 use Rattle.store.specs.Tails.{after_entry, entry_words, kind_at, latest, latest_write, number_at, numbers_in, read_kind, replayed, tail_span, words_at, write_kind}
 use Rattle.store.proofs.Entries.{front_laid, kind_laid, number_laid, numbers_same, replayed_same, words_laid}
 use Rattle.store.proofs.Logs.{buckets_long}
-use Rattle.store.proofs.Pieces.{length-overwritten, laid_out-pieces}
+use Rattle.store.proofs.Chunks.{laid_out-first_chunks}
 use Rattle.store.proofs.Replays.{get_d_numbers}
 
 pub journal_long : (used : ℕ) (tail base : List ℕ) → length (replayed used tail (buckets_in base)) ≡ bucket_count (length base)
@@ -20,16 +19,14 @@ journal_long used tail base = length-replayed used tail (buckets_in base) ∙ bu
 pub entry_fits : (used words : ℕ) → used + 1 ≤ tail_span words → entry_words * used + entry_words ≤ words
 entry_fits used words h = omega (arith, tail_fits (used + 1) words h)
 
--- an entry that was read is the entry of the log
-pub number_read : (tail : List ℕ) (used k x : ℕ) → used ≤ tail_span (length tail) → k < used
-    → x ≡ get_or tail (entry_words * k + 1) x → Ok (record { 0 = x }) ≡ entry_of (numbers_in used tail) k
-number_read tail used k x few h e =
+-- an entry's number is the entry of the log
+pub number_read : (tail : List ℕ) (used k x : ℕ) → k < used → x ≡ number_at tail k
+    → Ok (record { 0 = x }) ≡ entry_of (numbers_in used tail) k
+number_read tail used k x h e =
     let l = length_numbers used tail in
-    let fits = tail_fits used (length tail) few in
     let there : ltb k (length (numbers_in used tail)) ≡ true = lt-ltb k _ (omega arith) in
-    let is : x ≡ get_or (numbers_in used tail) k 0 =
-    get_or_read tail (entry_words * k + 1) x (omega arith) e 0 ∙ sym (get_d_numbers used tail k h) in
-    ap (λ y. Ok (record { 0 = y })) is ∙ sym (cond-true (ltb k (length (numbers_in used tail))) _ _ there)
+    ap (λ y. Ok (record { 0 = y })) (e ∙ sym (get_d_numbers used tail k h))
+    ∙ sym (cond-true (ltb k (length (numbers_in used tail))) _ _ there)
 
 pub number_missing : (tail : List ℕ) (used k : ℕ) → used ≤ k → Err NoEntry ≡ entry_of (numbers_in used tail) k
 number_missing tail used k h =
@@ -41,10 +38,6 @@ module _ (t : List ℕ) (k x n : ℕ) (ys u : List ℕ) (free : k + 1 ≤ tail_s
     (laid : u ≡ overwritten t (entry_words * k) (x ∷ n ∷ ys)) where
   fits : entry_words * k ≤ length t
   fits = omega (arith, entry_fits k (length t) free)
-
-  pub added_long : length u ≡ length t
-  added_long =
-      ap length laid ∙ length-overwritten t (entry_words * k) (x ∷ n ∷ ys) (omega (arith, entry_fits k (length t) free))
 
   pub added_number : numbers_in (k + 1) u ≡ entered (numbers_in k t) n
   added_number =
@@ -76,10 +69,6 @@ module _ (t : List ℕ) (k x n : ℕ) (ys u : List ℕ) (free : k + 1 ≤ tail_s
       (and_from _ _ (eq-eqb _ _ (kind_laid t k x n ys u fits long laid ∙ e)) is)
       ∙ ap (λ m. replaced r m (words_at u k)) number ∙ ap (λ ws. replaced r n ws) (words_laid t k x n ys u fits long laid)
 
--- a tail of the same length has the same room
-pub still_free : (used : ℕ) (t u : List ℕ) → length u ≡ length t → used ≤ tail_span (length t) → used ≤ tail_span (length u)
-still_free used t u e h = subst (λ m. used ≤ tail_span m) (sym e) h
-
 -- a bucket of the store is one of the base
 pub base_bucket : (used : ℕ) (tail base : List ℕ) (n : ℕ) → is_bucket (length (replayed used tail (buckets_in base))) n ≡ true
     → (is_bucket (length (buckets_in base)) n ≡ true) × (1 ≤ n) × (n ≤ bucket_count (length base))
@@ -98,10 +87,10 @@ latest-none used tail n old e = ap (λ o. unwrap_or (option_map (words_at tail) 
 
 -- a base brought up to date, word by word
 pub base_settled : (base tail last : List ℕ) (used : ℕ) → length last ≡ length base
-    → buckets_in last ≡ replayed used tail (buckets_in base) → drop (used_words base) last ≡ drop (used_words base) base
+    → buckets_in last ≡ replayed used tail (buckets_in base) → KeepsPast base last
     → last ≡ laid_out (replayed used tail (buckets_in base)) ++ drop (used_words base) base
 base_settled base tail last used l h p =
-    laid_out-pieces bucket_words (bucket_count (length last)) last
+    laid_out-first_chunks bucket_words (bucket_count (length last)) last
     ∙ ap (λ bs. laid_out bs ++ drop (used_words last) last) h
     ∙ ap (λ xs. laid_out (replayed used tail (buckets_in base)) ++ xs)
     (ap (λ m. drop (bucket_words * bucket_count m) last) l ∙ p)

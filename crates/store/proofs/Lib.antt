@@ -1,6 +1,6 @@
+pub mod Chunks
 pub mod Entries
 pub mod Journaling
 pub mod Logs
-pub mod Pieces
 pub mod Replays
 pub mod Transfers

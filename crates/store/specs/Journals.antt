@@ -12,11 +12,11 @@ journal_base s = vec_items s.base
 
 -- its tail, word by word
 abbrev pub journal_tail : JournalStore → List ℕ
-journal_tail s = vec_items s.tail
+journal_tail s = vec_items s.tail.words
 
 -- its buckets
 abbrev pub journal_buckets : JournalStore → List (List ℕ)
-journal_buckets s = replayed s.used (journal_tail s) (buckets_in (journal_base s))
+journal_buckets s = replayed s.tail.used (journal_tail s) (buckets_in (journal_base s))
 
 -- its span
 abbrev pub journal_span : JournalStore → ℕ
@@ -24,8 +24,8 @@ journal_span s = tail_span (length (journal_tail s))
 
 -- its log
 abbrev pub journal_log : JournalStore → List ℕ
-journal_log s = numbers_in s.used (journal_tail s)
+journal_log s = numbers_in s.tail.used (journal_tail s)
 
 -- the facts of every store hold of it
 pub journal_shape : (s : JournalStore) → Shape (journal_buckets s) (journal_span s) (journal_log s)
-journal_shape s = tail_shape (journal_base s) (journal_tail s) s.used s.few
+journal_shape s = tail_shape (journal_base s) (journal_tail s) s.tail.used s.tail.few

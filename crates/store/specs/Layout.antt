@@ -1,15 +1,11 @@
 -- How a list of words is a list of buckets, and what a write leaves of a list.
-use Rattle.std.specs.Prelude.{ℕ, zero, suc, ◌+◌, ◌-◌, ◌*◌, ◌/◌, min, List, [], ◌∷◌, ◌++◌, length, take, drop, replicate}
+use Rattle.std.specs.Prelude.{◌≡◌, ℕ, ◌+◌, ◌-◌, ◌*◌, ◌/◌, min, List, [], ◌∷◌, ◌++◌, length, take, drop, replicate}
+use Rattle.std.specs.Simd.{first_chunks}
 use Rattle.store.specs.Stores.{bucket_words, widest_span}
 
 -- the most buckets that a list of words is read for: those of a tree of depth 12
 abbrev pub most_buckets : ℕ
 most_buckets = 8191
-
--- the first n pieces of a list, w words each
-abbrev pub pieces : ℕ → ℕ → List ℕ → List (List ℕ)
-pieces w zero xs = []
-pieces w (suc n) xs = take w xs ∷ pieces w n (drop w xs)
 
 -- how many whole buckets are in so many words
 abbrev pub bucket_count : ℕ → ℕ
@@ -17,11 +13,15 @@ bucket_count words = min (words / bucket_words) most_buckets
 
 -- the buckets in a list of words
 abbrev pub buckets_in : List ℕ → List (List ℕ)
-buckets_in words = pieces bucket_words (bucket_count (length words)) words
+buckets_in words = first_chunks bucket_words (bucket_count (length words)) words
 
 -- how many words all its buckets take: those past them belong to none
 abbrev pub used_words : List ℕ → ℕ
 used_words words = bucket_words * bucket_count (length words)
+
+-- the words past the last bucket are what they were
+abbrev pub KeepsPast : List ℕ → List ℕ → Type 0
+KeepsPast before after = drop (used_words before) after ≡ drop (used_words before) before
 
 -- where bucket n begins
 abbrev pub start_of : ℕ → ℕ
@@ -30,6 +30,10 @@ start_of n = bucket_words * (n - 1)
 -- how many entries a log can hold that has room for so many
 abbrev pub span_of : ℕ → ℕ
 span_of room = min room widest_span
+
+-- how many entries of a width a list has room for
+abbrev pub entry_span : ℕ → List ℕ → ℕ
+entry_span width words = span_of (length words / width)
 
 -- the list with ys written over it from `at` on
 abbrev pub overwritten : List ℕ → ℕ → List ℕ → List ℕ

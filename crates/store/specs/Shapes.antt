@@ -6,16 +6,17 @@ use Rattle.std.proofs.ByRecursion.{All-set}
 use Rattle.std.proofs.lemmas.List.{length_push, length-set, length-take-le}
 use Rattle.std.proofs.lemmas.Bool.{cond_both}
 use Rattle.std.specs.List.{AllByRecursion}
+use Rattle.std.specs.Simd.{first_chunks}
 use Rattle.store.specs.Stores.{Shape, bucket_words, is_bucket, replaced}
 use Rattle.store.specs.Tails.{entry_words, kind_at, number_at, numbers_in, replayed, tail_span, words_at, write_kind}
-use Rattle.store.specs.Layout.{pieces, bucket_count, buckets_in, span_of}
+use Rattle.store.specs.Layout.{bucket_count, buckets_in, most_buckets, span_of}
 
-pub length-pieces : (w n : ℕ) (xs : List ℕ) → length (pieces w n xs) ≡ n
-length-pieces w zero xs = refl
-length-pieces w (suc n) xs = ap suc (length-pieces w n (drop w xs))
+pub length-first_chunks : (w n : ℕ) (xs : List ℕ) → length (first_chunks w n xs) ≡ n
+length-first_chunks w zero xs = refl
+length-first_chunks w (suc n) xs = ap suc (length-first_chunks w n (drop w xs))
 
--- each piece of a list that is long enough is whole
-pub all_whole : (w n : ℕ) (xs : List ℕ) → w * n ≤ length xs → AllByRecursion (λ b. length b ≡ w) (pieces w n xs)
+-- each chunk of a list that is long enough is whole
+pub all_whole : (w n : ℕ) (xs : List ℕ) → w * n ≤ length xs → AllByRecursion (λ b. length b ≡ w) (first_chunks w n xs)
 all_whole w zero xs h = tt
 all_whole w (suc n) xs h =
     let s = mul-suc w n in
@@ -29,7 +30,11 @@ fitting w most words =
     omega (arith, mul-div-le words w)
 
 pub buckets_fit : (words : ℕ) → bucket_words * bucket_count words ≤ words
-buckets_fit words = fitting bucket_words 8191 words
+buckets_fit words = fitting bucket_words most_buckets words
+
+-- entries of a word each: there is room for as many as there are words
+pub one_wide : (used words : ℕ) → used ≤ span_of (words / 1) → used ≤ span_of words
+one_wide used words h = omega arith
 
 -- the log is at the front of a list that has room for the span
 pub list_shape : (words entries : List ℕ) (used : ℕ) → used ≤ span_of (length entries)
@@ -39,7 +44,7 @@ list_shape words entries used h =
       forty = all_whole bucket_words (bucket_count (length words)) words (buckets_fit (length words));
       narrow = omega arith;
       within = omega (arith, length-take used entries);
-      counted = omega (arith, length-pieces bucket_words (bucket_count (length words)) words);
+      counted = omega (arith, length-first_chunks bucket_words (bucket_count (length words)) words);
     }
 
 pub length_numbers : (k : ℕ) (tail : List ℕ) → length (numbers_in k tail) ≡ k

@@ -1,6 +1,8 @@
 -- The tail of a journal store: an entry of forty-two words for each transfer, oldest first.
-use Rattle.std.specs.Prelude.{ℕ, zero, suc, ◌+◌, ◌*◌, ◌/◌, Bool, cond, ◌&&◌, List, [], ◌∷◌, ◌++◌, length, take, drop, replicate, Some, None, Option, ◌==◌, slice_index}
+use Rattle.std.specs.Prelude.{◌≡◌, ℕ, zero, suc, ◌+◌, ◌*◌, ◌/◌, ◌<◌, Bool, true, false, cond, ◌&&◌, List, [], ◌∷◌, ◌++◌, length, take, drop, replicate, Some, None, Option, MatchOption, ◌==◌, slice_index, slice_index_or}
 use Rattle.std.specs.Option.{option_map, unwrap_or}
+use Rattle.store.specs.declared.tail.EntryKind.{EntryKind}
+use Rattle.store.specs.declared.tail.EntryKind.TheVariants.{Read, Write}
 use Rattle.store.specs.Layout.{span_of}
 use Rattle.store.specs.Stores.{bucket_words, is_bucket, replaced}
 
@@ -15,6 +17,11 @@ read_kind = 0
 -- the kind of a write
 abbrev pub write_kind : ℕ
 write_kind = 1
+
+-- the word that stands for a kind of entry
+abbrev pub kind_word : EntryKind → ℕ
+kind_word Read = read_kind
+kind_word Write = write_kind
 
 -- the entry of a read of bucket n, which has forty zeros
 abbrev pub read_entry : ℕ → List ℕ
@@ -53,6 +60,13 @@ is_write_of tail k n = kind_at tail k == write_kind && number_at tail k == n
 abbrev pub latest_write : ℕ → List ℕ → ℕ → Option ℕ
 latest_write zero tail n = None
 latest_write (suc k) tail n = cond (is_write_of tail k n) (Some k) (latest_write k tail n)
+
+-- of these entries, each by itself, the found one is the latest that writes bucket n, or none does
+abbrev pub IsLatestWrite : List (List ℕ) → ℕ → Option ℕ → Type 0
+IsLatestWrite entries n found =
+    MatchOption found ((j : ℕ) → j < length entries → is_write_of (slice_index_or entries j []) 0 n ≡ false)
+    (λ k. (k < length entries) × (is_write_of (slice_index_or entries k []) 0 n ≡ true)
+    × ((j : ℕ) → k < j → j < length entries → is_write_of (slice_index_or entries j []) 0 n ≡ false))
 
 -- the words of bucket n: its latest write in the first k entries, else what it was before them
 abbrev pub latest : ℕ → List ℕ → ℕ → List ℕ → List ℕ

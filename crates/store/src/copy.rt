@@ -4,6 +4,7 @@ ghost use Rattle.store.specs.Stores.{done, entered, refusal};
 
 use crate::fault::StoreFault;
 use crate::interface::BucketStore;
+use tree::bucket::BUCKET_WORDS;
 use tree::numbers::BucketNumber;
 
 // A read and a write make an entry each.
@@ -20,7 +21,7 @@ pub fn rewrite_bucket<S: BucketStore>(store: &mut S, n: BucketNumber) -> Result<
     if free < ENTRIES {
         return Err(StoreFault::Full);
     }
-    let mut words = [0u32; 40];
+    let mut words = [0; BUCKET_WORDS];
     store.read(n, &mut words)?;
     store.write(n, &words)
 }

@@ -3,6 +3,7 @@ ghost use Rattle.std.specs.Prelude.{◌≡◌, ℕ, List, [], length, is_ok, if�
 ghost use Rattle.store.specs.Stores.{Shape, bucket_of, done, entered, entry_of, refusal, replaced, zeroed};
 
 use crate::fault::StoreFault;
+use tree::bucket::BUCKET_WORDS;
 use tree::numbers::BucketNumber;
 
 // Within this trait a log can only grow: what works a request is bounded by it alone, and so cannot take an entry back.
@@ -20,7 +21,7 @@ pub trait BucketStore {
     ghost shape: { (s : Self) → Shape (buckets s) (span s) (log s) };
 
     // Copies bucket n into the caller's place, and enters n.
-    fn read(&mut self, n: BucketNumber, into: &mut [u32; 40]) -> Result<(), StoreFault>
+    fn read(&mut self, n: BucketNumber, into: &mut [u32; BUCKET_WORDS]) -> Result<(), StoreFault>
         ensures answer { result ≡ done (refusal 1 (span self.old) (log self.old) (buckets self.old) n.0) }
         ensures place { into.new ≡ (if is_ok result then bucket_of (buckets self.old) n.0 else into.old) }
         ensures enters { log self.new ≡ (if is_ok result then entered (log self.old) n.0 else log self.old) }
@@ -28,7 +29,7 @@ pub trait BucketStore {
         ensures spans { span self.new ≡ span self.old };
 
     // Replaces bucket n by the caller's words, and enters n.
-    fn write(&mut self, n: BucketNumber, words: &[u32; 40]) -> Result<(), StoreFault>
+    fn write(&mut self, n: BucketNumber, words: &[u32; BUCKET_WORDS]) -> Result<(), StoreFault>
         ensures answer { result ≡ done (refusal 1 (span self.old) (log self.old) (buckets self.old) n.0) }
         ensures enters { log self.new ≡ (if is_ok result then entered (log self.old) n.0 else log self.old) }
         ensures holds { buckets self.new ≡ (if is_ok result then replaced (buckets self.old) n.0 words.now else buckets self.old) }

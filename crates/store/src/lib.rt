@@ -2,6 +2,7 @@
 #![tactic(auto)]
 
 pub mod copy;
+mod entry_list;
 pub mod fault;
 pub mod interface;
 pub mod journal;

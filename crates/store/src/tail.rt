@@ -1,67 +1,84 @@
-// The tail of a journal store, as a list of words.
-ghost use Rattle.std.specs.Prelude.{◌≡◌, ◌+◌, ◌*◌, ◌<◌, ◌≤◌, ◌∷◌, length, drop, IfSome};
-ghost use Rattle.store.specs.Layout.{buckets_in, overwritten, used_words};
-ghost use Rattle.store.specs.Tails.{after_entry, latest_write, replayed};
+// The tail of a journal store: an entry for each transfer, which has its kind, the bucket's number and forty words.
+ghost use Rattle.std.specs.Prelude.{◌≡◌, ◌∷◌, length, if◌then◌else◌, ◌==◌, Some, None};
+ghost use Rattle.store.specs.Layout.{KeepsPast, buckets_in};
+ghost use Rattle.store.specs.Tails.{IsLatestWrite, after_entry, kind_at, kind_word, number_at, replayed, words_at, write_kind};
 
-use crate::words::{copy_in, count_buckets, start_of};
+use crate::entry_list::EntryList;
+use crate::words::{copy_in, start_of};
+use tree::bucket::BUCKET_WORDS;
 use tree::numbers::BucketNumber;
 
-// Words of an entry: its kind, the bucket's number, and forty words.
-pub(crate) const ENTRY_WORDS: usize = 42;
+// Words of an entry.
+pub(crate) const ENTRY_WORDS: usize = 2 + BUCKET_WORDS;
 
-// The kinds of entry.
-pub(crate) const READ: u32 = 0;
-
-pub(crate) const WRITE: u32 = 1;
-
-// Lays out an entry from `at` on.
-pub(crate) fn append(tail: &mut [u32], at: usize, kind: u32, n: BucketNumber, words: &[u32])
-    requires { at + 2 + length words.now ≤ length tail.old }
-    ensures { tail.new ≡ overwritten tail.old at (kind ∷ n.0 ∷ words.now) }
-{
-    tail[at] = kind;
-    tail[at + 1] = n.0;
-    copy_in(tail, at + 2, words);
+// The kinds of entry, each with the word that stands for it.
+#[derive(Clone, Copy, PartialEq, Eq, Debug)]
+pub(crate) enum EntryKind {
+    Read = 0,
+    Write = 1,
 }
 
-// The latest of the first `used` entries that writes bucket n: the newest is asked first, since it is the one that counts.
-pub(crate) fn latest_write(tail: &[u32], used: usize, n: BucketNumber) -> Option<usize>
-    requires { 42 * used ≤ length tail.now }
-    ensures value { result ≡ latest_write used tail.now n.0 }
-    ensures within { IfSome result (λ k. k < used) }
+// The words of an entry.
+pub(crate) fn lay_out(
+    kind: EntryKind,
+    n: BucketNumber,
+    words: &[u32; BUCKET_WORDS],
+) -> [u32; ENTRY_WORDS]
+    ensures { result ≡ kind_word kind ∷ n.0 ∷ words.now }
 {
-    for k in (0..used).rev() {
-        let at = ENTRY_WORDS * k;
-        if tail[at] == WRITE && tail[at + 1] == n.0 {
-            return Some(k);
-        }
+    let mut entry = [0; ENTRY_WORDS];
+    entry[0] = kind as u32;
+    entry[1] = n.0;
+    entry[2..].copy_from_slice(words);
+    entry
+}
+
+// The bucket that an entry writes, if it is a write. An entry by itself is a tail of one entry, and so the definitions of
+// tails speak of it.
+fn written(entry: &[u32; ENTRY_WORDS]) -> Option<BucketNumber>
+    ensures { result ≡ (if kind_at entry.now 0 == write_kind then Some (record { 0 = number_at entry.now 0 }) else None) }
+{
+    if entry[0] == EntryKind::Write as u32 {
+        Some(BucketNumber(entry[1]))
+    } else {
+        None
     }
-    None
 }
 
-// Makes the write of entry k in the base, if it is one.
-fn settle_entry(base: &mut [u32], tail: &[u32], k: usize)
-    requires { 42 * k + 42 ≤ length tail.now }
-    ensures holds { buckets_in base.new ≡ after_entry tail.now k (buckets_in base.old) }
-    ensures past { drop (used_words base.old) base.new ≡ drop (used_words base.old) base.old }
+// The forty words of an entry.
+pub(crate) fn words_in(entry: &[u32; ENTRY_WORDS]) -> &[u32]
+    ensures value { result.now ≡ words_at entry.now 0 }
+    ensures count { length result.now ≡ 40 }
 {
-    let at = ENTRY_WORDS * k;
-    if tail[at] != WRITE {
+    &entry[2..]
+}
+
+// The latest entry that writes bucket n: the newest is asked first, since it is the one that counts.
+pub(crate) fn latest_write(entries: &[[u32; ENTRY_WORDS]], n: BucketNumber) -> Option<usize>
+    ensures { IsLatestWrite entries.now n.0 result }
+{
+    entries.iter().rposition(|entry| written(entry) == Some(n))
+}
+
+// Makes the write of an entry in the base, if it is one.
+fn settle_entry(base: &mut [u32], entry: &[u32; ENTRY_WORDS])
+    ensures holds { buckets_in base.new ≡ after_entry entry.now 0 (buckets_in base.old) }
+    ensures past { KeepsPast base.old base.new }
+{
+    let Some(n) = written(entry) else {
         return;
-    }
-    let count = count_buckets(base.len());
-    if let Some(start) = start_of(count, BucketNumber(tail[at + 1])) {
-        copy_in(base, start, &tail[at + 2..at + ENTRY_WORDS]);
+    };
+    if let Some(start) = start_of(base, n) {
+        copy_in(base, start, words_in(entry));
     }
 }
 
-// Makes every write of the first `used` entries in the base, oldest first.
-pub(crate) fn settle(base: &mut [u32], tail: &[u32], used: usize)
-    requires { 42 * used ≤ length tail.now }
-    ensures holds { buckets_in base.new ≡ replayed used tail.now (buckets_in base.old) }
-    ensures past { drop (used_words base.old) base.new ≡ drop (used_words base.old) base.old }
+// Makes every write of the tail in the base, oldest first.
+pub(crate) fn settle(base: &mut [u32], tail: &EntryList<ENTRY_WORDS>)
+    ensures holds { buckets_in base.new ≡ replayed tail.now.used tail.now.words.items (buckets_in base.old) }
+    ensures past { KeepsPast base.old base.new }
 {
-    for k in 0..used {
-        settle_entry(base, tail, k);
+    for entry in tail.entries() {
+        settle_entry(base, entry);
     }
 }

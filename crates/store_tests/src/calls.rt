@@ -1,6 +1,5 @@
-// Calls as values, so that one list of them drives any store.
-use card::fault::CardFault;
-use std::alloc::AllocError;
+// Calls as values, so that one list of them drives stores of any type.
+use std::alloc::{AllocError, Global};
 use store::copy::rewrite_bucket;
 use store::fault::StoreFault;
 use store::interface::StoreUpkeep;
@@ -15,47 +14,45 @@ pub enum Call {
     Clear,
 }
 
-// The number of a refusal, or 0.
-pub fn refused(answer: Result<(), StoreFault>) -> u8 {
-    match answer {
-        Ok(()) => 0,
-        Err(fault) => fault.number(),
-    }
+// What a store shows after a call: the answer, the caller's place, its counts, and its log with one entry past it.
+#[derive(PartialEq, Eq, Debug, Drop)]
+pub struct Shown {
+    answer: Result<(), StoreFault>,
+    place: [u32; 40],
+    buckets: u32,
+    span: u32,
+    log: Vec<Result<BucketNumber, StoreFault>>,
 }
 
-// Makes the call, and writes down its answer, the caller's place, and the store's log, with one entry past it.
-pub fn play<S: StoreUpkeep>(
-    store: &mut S,
-    call: Call,
-    out: &mut Vec<u32>,
-) -> Result<(), AllocError> {
-    let mut place = [7u32; 40];
+pub fn play<S: StoreUpkeep>(alloc: Global, store: &mut S, call: Call) -> Result<Shown, AllocError> {
+    let mut place = [7; 40];
     let answer = match call {
-        Call::Read(n) => refused(store.read(BucketNumber(n), &mut place)),
-        Call::Write(n, word) => refused(store.write(BucketNumber(n), &[word; 40])),
-        Call::Rewrite(n) => refused(rewrite_bucket(store, BucketNumber(n))),
+        Call::Read(n) => store.read(BucketNumber(n), &mut place),
+        Call::Write(n, word) => store.write(BucketNumber(n), &[word; 40]),
+        Call::Rewrite(n) => rewrite_bucket(store, BucketNumber(n)),
         Call::TearOff => {
             store.tear_off();
-            0
+            Ok(())
         }
         Call::Clear => {
             store.clear();
-            0
+            Ok(())
         }
     };
-    out.push(u32::from(answer))?;
-    out.extend_from_slice(&place)?;
-    note_log(store, out)
+    Ok(Shown {
+        answer,
+        place,
+        buckets: store.bucket_count(),
+        span: store.log_span(),
+        log: entries(alloc, store)?,
+    })
 }
 
-fn note_log<S: StoreUpkeep>(store: &S, out: &mut Vec<u32>) -> Result<(), AllocError> {
-    out.push(store.bucket_count())?;
-    out.push(store.log_span())?;
-    for k in 0..=store.log_used() {
-        match store.log_entry(k) {
-            Ok(n) => out.push(n.0)?,
-            Err(fault) => out.push(u32::from(fault.number()))?,
-        }
-    }
-    Ok(())
+fn entries<S: StoreUpkeep>(
+    alloc: Global,
+    store: &S,
+) -> Result<Vec<Result<BucketNumber, StoreFault>>, AllocError> {
+    (0..=store.log_used())
+        .map(|k| store.log_entry(k))
+        .collect(alloc)
 }

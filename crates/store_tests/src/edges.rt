@@ -1,6 +1,5 @@
 // The edges: counts of buckets and entries, the last bucket and the one past it, a full log.
-use card::fault::CardFault;
-use crate::calls::refused;
+use rig::answers::refusal;
 use std::process::Abort;
 use std::test::Fail;
 use store::interface::BucketStore;
@@ -41,27 +40,29 @@ fn span_of_a_log(rt: HostRuntime) -> Result<(), Fail> {
 // A store of two buckets whose log can hold two entries.
 fn two_of_each<S: BucketStore>(rt: &impl Abort, store: &mut S) {
     let mut place = [0u32; 40];
-    assert_eq!(rt; refused(store.read(BucketNumber(0), &mut place)), 9);
-    assert_eq!(rt; refused(store.write(BucketNumber(3), &place)), 9);
-    assert_eq!(rt; store.log_used(), 0);
-    assert_eq!(rt; refused(store.read(BucketNumber(2), &mut place)), 0);
-    assert_eq!(rt; refused(store.write(BucketNumber(1), &place)), 0);
-    assert_eq!(rt; refused(store.read(BucketNumber(1), &mut place)), 7);
     assert_eq!(rt;
-        refused(store.write(BucketNumber(3), &place)),
-        7,
+        refusal(store.read(BucketNumber(0), &mut place)),
+        Some((9, 0))
+    );
+    assert_eq!(rt; refusal(store.write(BucketNumber(3), &place)), Some((9, 0)));
+    assert_eq!(rt; store.log_used(), 0);
+    assert_eq!(rt; refusal(store.read(BucketNumber(2), &mut place)), None);
+    assert_eq!(rt; refusal(store.write(BucketNumber(1), &place)), None);
+    assert_eq!(rt;
+        refusal(store.read(BucketNumber(1), &mut place)),
+        Some((7, 0))
+    );
+    assert_eq!(rt;
+        refusal(store.write(BucketNumber(3), &place)),
+        Some((7, 0)),
         "7 comes before 9"
     );
-    assert_eq!(rt; entry(store, 1), 1);
-    assert_eq!(rt; entry(store, 2), 1010, "there is no third entry");
-}
-
-// Entry k, or the number of its refusal and 1,000.
-fn entry<S: BucketStore>(store: &S, k: u32) -> u32 {
-    match store.log_entry(k) {
-        Ok(n) => n.0,
-        Err(fault) => 1000 + u32::from(fault.number()),
-    }
+    assert_eq!(rt; store.log_entry(1), Ok(BucketNumber(1)));
+    assert_eq!(rt;
+        refusal(store.log_entry(2)),
+        Some((10, 0)),
+        "there is no third entry"
+    );
 }
 
 #[test]
@@ -88,8 +89,14 @@ fn no_room(rt: HostRuntime) -> Result<(), Fail> {
     let mut table = TableStore::new(vec![in rt.alloc(); 0; 40]?, vec![in rt.alloc()]?);
     let mut journal = JournalStore::new(vec![in rt.alloc(); 0; 40]?, vec![in rt.alloc(); 0; 41]?);
     for n in [0, 1, 2] {
-        assert_eq!(rt; refused(table.write(BucketNumber(n), &[1; 40])), 7);
-        assert_eq!(rt; refused(journal.write(BucketNumber(n), &[1; 40])), 7);
+        assert_eq!(rt;
+            refusal(table.write(BucketNumber(n), &[1; 40])),
+            Some((7, 0))
+        );
+        assert_eq!(rt;
+            refusal(journal.write(BucketNumber(n), &[1; 40])),
+            Some((7, 0))
+        );
     }
     Ok(())
 }
@@ -98,8 +105,11 @@ fn no_room(rt: HostRuntime) -> Result<(), Fail> {
 #[test]
 fn last_bucket(rt: HostRuntime) -> Result<(), Fail> {
     let mut table = TableStore::new(vec![in rt.alloc(); 0; 327_680]?, vec![in rt.alloc(); 0; 9]?);
-    assert_eq!(rt; refused(table.write(BucketNumber(8191), &[5; 40])), 0);
-    assert_eq!(rt; refused(table.write(BucketNumber(8192), &[6; 40])), 9);
+    assert_eq!(rt; refusal(table.write(BucketNumber(8191), &[5; 40])), None);
+    assert_eq!(rt;
+        refusal(table.write(BucketNumber(8192), &[6; 40])),
+        Some((9, 0))
+    );
     let (words, _log) = table.into_parts();
     assert_eq!(rt; words.get(327_639).copied(), Some(5));
     assert_eq!(rt; words.get(327_640).copied(), Some(0));

@@ -32,12 +32,11 @@ fn alike(rt: HostRuntime) -> Result<(), Fail> {
     let heap = rt.alloc();
     let mut table = TableStore::new(vec![in heap; 9; 100]?, vec![in heap; 0; 5]?);
     let mut journal = JournalStore::new(vec![in heap; 9; 100]?, vec![in heap; 0; 217]?);
-    let mut one = vec![in heap]?;
-    let mut other = vec![in heap]?;
     for call in CALLS {
-        play(&mut table, call, &mut one)?;
-        play(&mut journal, call, &mut other)?;
-        assert!(rt; one.as_slice() == other.as_slice());
+        assert_eq!(rt;
+            play(heap, &mut table, call)?,
+            play(heap, &mut journal, call)?
+        );
     }
     let (words, _log) = table.into_parts();
     let (base, _tail) = journal.into_parts();

@@ -1,7 +1,6 @@
 -- Forty words and four places: both round trips.
-use Rattle.std.proofs.Common.{◌≡◌, ℕ, zero, suc, ◌+◌, ◌-◌, ◌*◌, ◌<◌, ◌≤◌, List, [], ◌∷◌, ◌++◌, length, get_or, take, drop, set, sym, refl, ap, ◌∙◌, arith}
-use borrow.Rule.Slice.PartMut.{put_mid}
-use Rattle.std.proofs.lemmas.List.{append_assoc, append-nil, drop-drop, drop-set-lt, get_or_append_left, get_or-append_right, length-append, length-set, length-take-le, take_at, take_more, take_more_set}
+use Rattle.std.proofs.Common.{◌≡◌, ℕ, zero, suc, ◌+◌, ◌-◌, ◌*◌, ◌<◌, ◌≤◌, List, [], ◌∷◌, ◌++◌, length, get_or, take, drop, sym, refl, ap, ◌∙◌, arith}
+use Rattle.std.proofs.lemmas.List.{append_assoc, append-nil, get_or_append_left, get_or-append_right, length-append, length-take-le, take_at, take_more}
 use Rattle.tree.specs.declared.place.Place.{Place}
 use Rattle.tree.specs.Places.{place_at, places_of, place_words, words_of, ReadAndLaid, LaidAndRead}
 use Rattle.tree.proofs.PlaceLaws.{same_place}
@@ -70,27 +69,6 @@ laid (a ∷ b ∷ c ∷ d ∷ e ∷ ps) h = absurd (omega arith)
 
 pub laid_and_read : LaidAndRead
 laid_and_read b = laid b.places b.four
-
--- two words and then w more, written over a list from a place on
-pub written : (w : ℕ) (xs ws : List ℕ) (at m l : ℕ) → at + (2 + w) ≤ length xs
-    → put_mid (at + 2) (at + (2 + w) - (at + 2)) (set (set xs at m) (at + 1) l) ws
-    ≡ take at xs ++ (m ∷ l ∷ (ws ++ drop (at + (2 + w)) xs))
-written w xs ws at m l h =
-    let ys = set (set xs at m) (at + 1) l in
-    let a : at < length xs = omega arith in
-    let b : at + 1 < length (set xs at m) = simp length-set (omega arith) in
-    let two : at + 2 ≡ at + 1 + 1 = omega arith in
-    let front : take (at + 2) ys ≡ (take at xs ++ m ∷ []) ++ l ∷ [] =
-    ap (λ n. take n ys) two ∙ (take_more_set (set xs at m) (at + 1) l b ∙ ap (λ zs. zs ++ l ∷ []) (take_more_set xs at m a)) in
-    let far : at + 2 + (at + (2 + w) - (at + 2)) ≡ at + (2 + w) = omega arith in
-    let back : drop (at + (2 + w) - (at + 2)) (drop (at + 2) ys) ≡ drop (at + (2 + w)) xs =
-    drop-drop (at + (2 + w) - (at + 2)) (at + 2) ys
-    ∙ (ap (λ n. drop n ys) far
-    ∙ (drop-set-lt (at + (2 + w)) (set xs at m) (at + 1) l (omega arith) ∙ drop-set-lt (at + (2 + w)) xs at m (omega arith))) in
-    ap (λ zs. zs ++ (ws ++ drop (at + (2 + w) - (at + 2)) (drop (at + 2) ys))) front
-    ∙ (ap (λ zs. ((take at xs ++ m ∷ []) ++ l ∷ []) ++ (ws ++ zs)) back
-    ∙ (append_assoc (take at xs ++ m ∷ []) (l ∷ []) (ws ++ drop (at + (2 + w)) xs)
-    ∙ append_assoc (take at xs) (m ∷ []) (l ∷ (ws ++ drop (at + (2 + w)) xs))))
 
 words_push : (qs : List Place) (q : Place) → words_of (qs ++ q ∷ []) ≡ words_of qs ++ place_words q
 words_push [] q = append-nil (place_words q)

@@ -1,10 +1,12 @@
 -- The best score so far, and so the place whose block a flush moves.
-use Rattle.std.proofs.Common.{◌≡◌, ℕ, zero, suc, ◌+◌, ◌^◌, ◌<◌, ◌≤◌, Bool, true, false, cond, ◌&&◌, eqb, ltb, leb, List, [], ◌∷◌, map, length, get_or, is_some, IfSome, Some, None, Option, sym, refl, ap, ◌∙◌, subst, arith, below_more, MatchOption}
+use Rattle.std.proofs.Common.{◌≡◌, ℕ, zero, suc, ◌+◌, ◌^◌, ◌<◌, ◌≤◌, Bool, true, false, cond, ◌&&◌, eqb, ltb, leb, List, [], ◌∷◌, map, length, get_or, is_some, Some, None, Option, sym, refl, ap, ◌∙◌, subst, arith, below_more, MatchOption}
 use Rattle.std.proofs.lemmas.List.{get_or-map, length-map}
-use Rattle.std.proofs.lemmas.Bool.{and_from, and_parts, cond-false, cond-true, eq-eqb, le-leb, ltb-true, ne_eqb}
+use Rattle.std.proofs.lemmas.List.Sums.{position_or_len_is}
+use Rattle.std.specs.List.{position}
+use Rattle.std.proofs.lemmas.Bool.{and_from, and_parts, cond-false, cond-true, eq-eqb, le-leb, lt-ltb, ltb-true, ne_eqb}
 use Rattle.tree.specs.declared.place.Place.{Place}
 use Rattle.tree.specs.Paths.{is_depth, is_leaf, path}
-use Rattle.tree.specs.Places.{empty_place, first_from, has_block, lowest_empty}
+use Rattle.tree.specs.Places.{empty_place, has_block, lowest_empty}
 use Rattle.tree.specs.Choice.{Moves, best, closeness, highest, may_move, moving, score}
 use Rattle.tree.proofs.Firsts.{positive}
 use Rattle.tree.proofs.PathLaws.{paths_part, shared_agree}
@@ -18,9 +20,6 @@ abbrev pub Best : List ℕ → ℕ → ℕ → Option ℕ → Type 0
 Best ss n top r =
     ((j : ℕ) → j < n → get_or ss j 0 ≤ top)
     × MatchOption r (top ≡ 0) (λ i. (i < n) × (get_or ss i 0 ≡ top) × (0 < top) × ((j : ℕ) → j < i → get_or ss j 0 < top))
-
-pub best_none : (ss : List ℕ) → Best ss 0 0 None
-best_none ss = (λ j h. absurd (let z : ⊥ = omega arith in z), refl)
 
 pub best_takes : (ss : List ℕ) (n s top : ℕ) (r : Option ℕ) → s ≡ get_or ss n 0 → top < s → Best ss n top r → Best ss (n + 1) s (Some n)
 best_takes ss n s top r e l b = (
@@ -51,16 +50,11 @@ least (s ∷ ss) t h =
     omega arith
 
 -- the first that passes is the one before which none does
-first_is : {X : Type 0} (test : X → Bool) (d : X) (k : ℕ) (xs : List X) (i : ℕ) → i < length xs → test (get_or xs i d) ≡ true
-    → ((j : ℕ) → j < i → test (get_or xs j d) ≡ false) → first_from test k xs ≡ Some (k + i)
-first_is test d k [] i l t f = absurd (let z : ⊥ = omega arith in z)
-first_is test d k (x ∷ xs) zero l t f =
-    let e : k ≡ k + 0 = omega arith in
-    cond-true (test x) (Some k) _ t ∙ ap Some e
-first_is test d k (x ∷ xs) (suc i) l t f =
-    let e : suc k + i ≡ k + suc i = omega arith in
-    cond-false (test x) (Some k) _ (f 0 (omega arith))
-    ∙ (first_is test d (suc k) xs i (omega arith) t (λ j h. f (suc j) (omega arith)) ∙ ap Some e)
+first_is : {X : Type 0} (test : X → Bool) (d : X) (xs : List X) (i : ℕ) → i < length xs → test (get_or xs i d) ≡ true
+    → ((j : ℕ) → j < i → test (get_or xs j d) ≡ false) → position test xs ≡ Some i
+first_is test d xs i l t f =
+    let e = position_or_len_is test xs i d (omega arith) f (λ _. t) in
+    ap (λ k. cond (ltb k (length xs)) (Some k) None) e ∙ cond-true _ (Some i) None (lt-ltb i (length xs) l)
 
 pub best_is : (ss : List ℕ) (top : ℕ) (r : Option ℕ) → Best ss (length ss) top r → r ≡ best ss
 best_is ss top None b =
@@ -68,10 +62,9 @@ best_is ss top None b =
     sym (cond-true (eqb (highest ss) 0) None _ (eq-eqb _ _ h))
 best_is ss top (Some i) b =
     let h : highest ss ≡ top = omega (arith, least ss top b.0, at_most ss i, b.1.1) in
-    let first = first_is (λ s. eqb s (highest ss)) 0 0 ss i b.1.0 (eq-eqb _ _ (b.1.1 ∙ sym h))
+    let first = first_is (λ s. eqb s (highest ss)) 0 ss i b.1.0 (eq-eqb _ _ (b.1.1 ∙ sym h))
     (λ j l. ne_eqb _ _ (λ e. omega (arith, b.1.3 j l))) in
-    let z : 0 + i ≡ i = omega arith in
-    sym (cond-false (eqb (highest ss) 0) None _ (ne_eqb _ _ (λ e. omega (arith, b.1.2))) ∙ (first ∙ ap Some z))
+    sym (cond-false (eqb (highest ss) 0) None _ (ne_eqb _ _ (λ e. omega (arith, b.1.2))) ∙ first)
 
 -- where no score counts, there is no best
 none_high : (ps : List Place) → highest (map (λ (p : Place). 0) ps) ≡ 0
@@ -146,7 +139,3 @@ best_moves D m d parent child n top r e room b leaf layer =
     let test : (is_leaf D m && leb d D) ≡ true = and_from _ _ leaf (le-leb d D layer) in
     moves_from D m d parent child n top r (ltb-true _ _ (and_parts (is_depth D) _ leaf).1) e room
     (subst (λ t. Best (map (λ p. cond t (score D m d p) 0) parent) n top r) test b)
-
-pub best_within : (ss : List ℕ) (n top : ℕ) (r : Option ℕ) → Best ss n top r → IfSome r (λ i. i < n)
-best_within ss n top None b = tt
-best_within ss n top (Some i) b = b.1.0

@@ -1,3 +1,4 @@
+mod ArrayLaws
 pub mod BucketLaws
 pub mod ChoiceLaws
 pub mod Counts

@@ -1,11 +1,11 @@
 -- Laws of the paths from the root to a leaf, for a tree of any depth.
-use Rattle.std.proofs.Common.{◌≡◌, ℕ, zero, suc, ◌+◌, ◌-◌, ◌*◌, ◌/◌, ◌^◌, ◌<◌, ◌≤◌, min, cond, eqb, ◌⊎◌, sym, ap, ◌∙◌, subst, inl, inr, div-one, arith, pow_mono}
+use Rattle.std.proofs.Common.{◌≡◌, ℕ, zero, suc, ◌+◌, ◌-◌, ◌*◌, ◌/◌, ◌^◌, ◌<◌, ◌≤◌, min, true, cond, eqb, leb, ltb, ◌⊎◌, sym, ap, ◌∙◌, subst, IfNone, IfSome, MatchOption, Some, None, Option, inl, inr, div-one, arith, pow_mono}
 use native.Mathlib.Nat.{two-pow-succ, div-lt_self, div-eq_of_lt, mul-add-div_right}
 use lib.Bits.{bit_xor, and_le_l, and_le_r, xor_self, xor_add_and, xor_lt, xor_shr}
 use lib.Count.{count_leading_zeros}
-use Rattle.std.proofs.lemmas.Nat.{pow_pos, pow-add, pow_below, shr-shr, shr_below, le-div, leading_length, leading_top}
-use Rattle.std.proofs.lemmas.Bool.{cases_lt, cases_order, eq-eqb, ne_eqb, cond-true, cond-false}
-use Rattle.tree.specs.Paths.{path, AgreeOn, OnLayer, shared_to, shared_buckets, PathLaws}
+use Rattle.std.proofs.lemmas.Nat.{pow_pos, pow-add, pow_below, shr-shr, shr_below, le-div, leading_length}
+use Rattle.std.proofs.lemmas.Bool.{and_parts, cases_lt, cases_order, eq-eqb, leb-true, ltb-true, ne_eqb, cond-true, cond-false}
+use Rattle.tree.specs.Paths.{path, is_depth, is_leaf, AgreeOn, OnLayer, shared_to, shared_buckets, PathLaws}
 
 -- the power of a whole is the product of those of its parts
 pow_parts : (d D : ℕ) → d ≤ D → 2 ^ d * 2 ^ (D - d) ≡ 2 ^ D
@@ -49,9 +49,6 @@ path_rises D m d e h k =
     let less : path D m e / 2 ^ (e - d) < path D m e = div-lt_self (path_positive D m e) (omega arith) in
     omega (arith, path_up D m e d (omega arith) k)
 
-pub path_agree_up : (D m n d e : ℕ) → e ≤ d → d ≤ D → path D m d ≡ path D n d → path D m e ≡ path D n e
-path_agree_up D m n d e h k s = path_up D m d e h k ∙ ap (λ x. x / 2 ^ (d - e)) s ∙ sym (path_up D n d e h k)
-
 -- a number is twice its half, or one more
 halved : (n v : ℕ) → v ≡ n / 2 → (n ≡ 2 * v) ⊎ (n ≡ 2 * v + 1)
 halved n v e = elim (cases_lt (2 * v) n) [ inl l ↦ inr (omega arith) | inr l ↦ inl (omega arith) ]
@@ -83,7 +80,7 @@ shared_agree D m n k a = omega (arith, a.1, shared_down D m n k a D (omega arith
 not_below : (d e v : ℕ) → v < 2 ^ suc d → 2 ^ e ≤ v → d < e → ⊥
 not_below d e v h l k = let p : 2 ^ suc d ≤ 2 ^ e = pow_mono k in omega arith
 
-pub layer_unique : (d e v : ℕ) → OnLayer d v → OnLayer e v → d ≡ e
+layer_unique : (d e v : ℕ) → OnLayer d v → OnLayer e v → d ≡ e
 layer_unique d e v p q =
     elim (cases_order d e) [
       | inl s ↦ s
@@ -145,6 +142,20 @@ agree_zeros D w m n h l k =
     let e : q.0 ≡ w - count_leading_zeros w (bit_xor m n) = omega (arith, q.1) in
     (omega arith, subst (λ x. AgreeOn D m n (D + 1 - x)) e (agree_on D m n q.0 few q.2 q.3))
 
+-- a tree that has a leaf is at most 12 deep, and the leaf below its number of leaves
+pub leaf_below : (D m : ℕ) → is_leaf D m ≡ true → (D ≤ 12) × (m < 2 ^ D)
+leaf_below D m f =
+    let p = and_parts (is_depth D) (ltb m (2 ^ D)) f in
+    (leb-true D 12 (and_parts (leb 1 D) (leb D 12) p.0).1, ltb-true m (2 ^ D) p.1)
+
+-- the same of two leaves of a tree, at the width of a word
+pub agree_leaves : (D m n : ℕ) → is_leaf D m ≡ true → is_leaf D n ≡ true
+    → (32 - count_leading_zeros 32 (bit_xor m n) ≤ D) × AgreeOn D m n (D + 1 - (32 - count_leading_zeros 32 (bit_xor m n)))
+agree_leaves D m n f g =
+    let l = leaf_below D m f in
+    let k = leaf_below D n g in
+    agree_zeros D 32 m n l.1 k.1 (omega arith)
+
 -- any two leaves' paths part once, and for good
 pub paths_part : (D m n : ℕ) → m < 2 ^ D → n < 2 ^ D → (k : ℕ) × AgreeOn D m n k
 paths_part D m n h l =
@@ -161,9 +172,10 @@ path_laws =
       apart = paths_part;
     }
 
--- the place of the highest bit of a number of w + 1 bits is its layer
-pub layer_zeros : (w v : ℕ) → 1 ≤ v → v < 2 ^ suc w → OnLayer (w - count_leading_zeros (suc w) v) v
-layer_zeros w v h l =
-    let q = leading_top (suc w) v h l in
-    let e : q.0 ≡ w - count_leading_zeros (suc w) v = omega (arith, q.1) in
-    subst (λ d. OnLayer d v) e (q.2, q.3)
+-- a bucket's layer is the whole part of its number's logarithm, and no bucket lies on two layers
+pub layer_at : (v : ℕ) (r : Option ℕ) → IfNone r (v ≡ 0) → IfSome r (λ d. 2 ^ d ≤ v) → IfSome r (λ d. v < 2 * 2 ^ d)
+    → MatchOption r (v ≡ 0) (λ d. OnLayer d v × ((e : ℕ) → OnLayer e v → e ≡ d))
+layer_at v None none low high = none
+layer_at v (Some d) none low high =
+    let on : OnLayer d v = (low, omega (arith, high, two-pow-succ d)) in
+    (on, λ e other. layer_unique e d v other on)

@@ -1,12 +1,12 @@
 -- Places and blocks with equal words are equal, whatever the proofs of their lengths.
-use Rattle.std.proofs.Common.{◌≡◌, ℕ, ◌+◌, ◌<◌, ◌≤◌, Bool, true, false, cond, ◌&&◌, eqb, List, length, get_or, drop, Some, None, sym, ap, ◌∙◌}
+use Rattle.std.proofs.Common.{◌≡◌, ℕ, Bool, true, false, cond, ◌&&◌, eqb, List, length, replicate, Some, None, refl, ap, zero, suc, [], ◌∷◌, arith}
+use Rattle.std.specs.List.{list_all}
+use Rattle.std.specs.Cmp.Lexicographic.{pointwise}
 use mathlib.Core.HLevel.{is_prop→PathP}
 use native.Mathlib.Nat.{ℕ_set}
-use Rattle.std.proofs.lemmas.List.{at_drop_more, at_drop_all}
-use Rattle.std.proofs.lemmas.Bool.{false≢true, eq-eqb, ne_eqb}
+use Rattle.std.proofs.lemmas.Bool.{false≢true}
 use Rattle.tree.specs.declared.block.Block.{Block}
 use Rattle.tree.specs.declared.place.Place.{Place}
-use Rattle.tree.specs.Places.{all_zero}
 
 pub same_place : (p q : Place) → p.mark ≡ q.mark → p.leaf ≡ q.leaf → p.words ≡ q.words → p ≡ q
 same_place p q m l w =
@@ -33,24 +33,9 @@ pub some-given : {X : Type 0} (b : Bool) (x y : X) → b ≡ true → x ≡ y �
 some-given true x y t e = ap Some e
 some-given false x y t e = absurd (false≢true t)
 
--- what is left of the words to look at, one word on and at the end
-pub zero_more : (ws : List ℕ) (i : ℕ) → i < length ws → all_zero (drop i ws) ≡ (eqb (get_or ws i 0) 0 && all_zero (drop (i + 1) ws))
-zero_more ws i h = at_drop_more all_zero ws i 0 h
-
-pub zero_end : (ws : List ℕ) (i : ℕ) → length ws ≤ i → all_zero (drop i ws) ≡ true
-zero_end ws i h = at_drop_all all_zero ws i h
-
-zero_step : (w : ℕ) (r : Bool) → w ≡ 0 → (eqb w 0 && r) ≡ r
-zero_step w r e = ap (λ b. b && r) (eq-eqb w 0 e)
-
--- one word more is 0, or is not
-pub zero_again : (ws : List ℕ) (i : ℕ) → i < length ws → get_or ws i 0 ≡ 0 → all_zero (drop i ws) ≡ all_zero ws
-    → all_zero (drop (i + 1) ws) ≡ all_zero ws
-zero_again ws i h e inv = sym (zero_step _ (all_zero (drop (i + 1) ws)) e) ∙ (sym (zero_more ws i h) ∙ inv)
-
-pub zero_not : (ws : List ℕ) (i : ℕ) → i < length ws → (get_or ws i 0 ≡ 0 → ⊥) → all_zero (drop i ws) ≡ all_zero ws → all_zero ws ≡ false
-zero_not ws i h e inv = sym inv ∙ (zero_more ws i h ∙ ap (λ b. b && all_zero (drop (i + 1) ws)) (ne_eqb (get_or ws i 0) 0 e))
-
--- with the first two words 0, the rest decides
-pub rest_decides : (a b : ℕ) (z r : Bool) → a ≡ 0 → b ≡ 0 → z ≡ r → r ≡ (eqb a 0 && (eqb b 0 && z))
-rest_decides a b z r p q e = sym (zero_step a (eqb b 0 && z) p ∙ (zero_step b z q ∙ e))
+-- words that are as many zeros
+pub zero_words : (n : ℕ) (ws : List ℕ) → length ws ≡ n → pointwise eqb ws (replicate n 0) ≡ list_all (λ w. eqb w 0) ws
+zero_words zero [] h = refl
+zero_words zero (w ∷ ws) h = absurd (omega arith)
+zero_words (suc n) [] h = absurd (omega arith)
+zero_words (suc n) (w ∷ ws) h = ap (λ b. eqb w 0 && b) (zero_words n ws (omega arith))

@@ -1,8 +1,8 @@
 -- Which block a flush moves from a bucket to its child.
-use Rattle.std.specs.Prelude.{◌≡◌, ℕ, ◌^◌, ◌<◌, ◌≤◌, max, Bool, true, cond, ◌&&◌, List, [], ◌∷◌, map, length, is_some, Some, None, Option, MatchOption, ◌==◌, ◌≢◌, nat_eq, nat_le, nat_lt, slice_index_or}
+use Rattle.std.specs.Prelude.{◌≡◌, ℕ, ◌^◌, ◌<◌, ◌≤◌, max, Bool, true, cond, ◌&&◌, List, [], ◌∷◌, map, length, is_some, Some, None, Option, MatchOption, ◌==◌, ◌≢◌, nat_eq, nat_le, nat_lt, slice_index_or, position}
 use Rattle.tree.specs.declared.place.Place.{Place}
 use Rattle.tree.specs.Paths.{is_leaf, path, shared_buckets}
-use Rattle.tree.specs.Places.{emptied, empty_place, filled, first_from, has_block, lowest_empty}
+use Rattle.tree.specs.Places.{emptied, empty_place, filled, has_block, lowest_empty}
 
 -- in a flush along leaf m, the bucket at layer d lies on the own path of the place's block
 abbrev pub may_move : ℕ → ℕ → ℕ → Place → Bool
@@ -34,7 +34,7 @@ highest (s ∷ ss) = max s (highest ss)
 
 -- the lowest place that has the highest score, unless that is 0
 abbrev pub best : List ℕ → Option ℕ
-best ss = cond (highest ss == 0) None (first_from (λ s. nat_eq s (highest ss)) 0 ss)
+best ss = cond (highest ss == 0) None (position (λ s. nat_eq s (highest ss)) ss)
 
 -- the place whose block moves
 abbrev pub chosen : ℕ → ℕ → ℕ → List Place → List Place → Option ℕ

@@ -1,6 +1,7 @@
 -- The prescribed entries of the access log: what each step of a row of depth D enters, oldest first.
 -- They come from leaves alone, never from what the row holds.
-use Rattle.std.specs.Prelude.{◌≡◌, ℕ, zero, suc, ◌+◌, ◌-◌, ◌*◌, ◌/◌, ◌%◌, ◌<◌, ◌≤◌, Bool, true, cond, ◌&&◌, List, [], ◌∷◌, ◌++◌, length, Option, MatchOption, ◌==◌, slice_index}
+use Rattle.std.specs.Prelude.{◌≡◌, ℕ, zero, suc, ◌+◌, ◌-◌, ◌*◌, ◌/◌, ◌%◌, ◌<◌, ◌≤◌, Bool, true, cond, List, [], ◌∷◌, ◌++◌, length, Option, MatchOption, ◌==◌, slice_index}
+use Rattle.std.specs.List.{list_all}
 use Rattle.tree.specs.declared.numbers.BucketNumber.{BucketNumber}
 use Rattle.tree.specs.declared.numbers.Leaf.{Leaf}
 use Rattle.tree.specs.declared.entries.Work.{Work}
@@ -78,8 +79,7 @@ total moves (D ∷ Ds) = moves D + total moves Ds
 
 -- each depth is one that a tree can have
 abbrev pub all_depths : List ℕ → Bool
-all_depths [] = true
-all_depths (D ∷ Ds) = is_depth D && all_depths Ds
+all_depths Ds = list_all is_depth Ds
 
 -- r is entry k of a list, where there are such leaves and the list is that long
 abbrev pub Entry : Bool → List ℕ → ℕ → Option BucketNumber → Type 0
@@ -88,8 +88,7 @@ Entry fit entries k r =
 
 -- each is a leaf of a tree of depth D
 abbrev pub are_leaves : ℕ → List Leaf → Bool
-are_leaves D [] = true
-are_leaves D (m ∷ ms) = is_leaf D m.0 && are_leaves D ms
+are_leaves D ms = list_all (λ m. is_leaf D m.0) ms
 
 -- the layer of entry k of a flush: odd ones go down, even ones are the bucket above, and the last is the last bucket
 abbrev pub layer_in : ℕ → ℕ

@@ -1,5 +1,6 @@
 -- Places and buckets: how forty words are four places, which place is empty, and how a block leaves or enters.
-use Rattle.std.specs.Prelude.{◌≡◌, ℕ, suc, ◌+◌, ◌-◌, ◌^◌, Bool, true, cond, not, ◌&&◌, List, [], ◌∷◌, ◌++◌, length, Some, None, Ok, Err, Option, Result, ◌==◌, ◌≢◌, nat_lt, slice_index, slice_index_or, slice_set, refl}
+use Rattle.std.specs.Prelude.{◌≡◌, ℕ, ◌+◌, ◌-◌, ◌^◌, Bool, cond, not, List, [], ◌∷◌, ◌++◌, length, Some, None, Ok, Err, Option, Result, ◌==◌, ◌≢◌, nat_lt, slice_index, slice_index_or, slice_set, position, refl}
+use Rattle.std.specs.List.{list_all}
 use Rattle.tree.specs.declared.block.Block.{Block}
 use Rattle.tree.specs.declared.place.Place.{Place}
 use Rattle.tree.specs.declared.bucket.Bucket.{Bucket}
@@ -32,13 +33,9 @@ places_of ws = place_at ws 0 ∷ place_at ws 10 ∷ place_at ws 20 ∷ place_at 
 abbrev pub empty_place : Place
 empty_place = record { mark = 0; leaf = 0; words = 0 ∷ 0 ∷ 0 ∷ 0 ∷ 0 ∷ 0 ∷ 0 ∷ 0 ∷ []; eight = refl }
 
-abbrev pub all_zero : List ℕ → Bool
-all_zero [] = true
-all_zero (w ∷ ws) = w == 0 && all_zero ws
-
 -- a place is empty when all its ten words are 0
 abbrev pub is_empty : Place → Bool
-is_empty p = all_zero (place_words p)
+is_empty p = list_all (λ w. w == 0) (place_words p)
 
 -- a place has a block where its first word is not 0
 abbrev pub has_block : Place → Bool
@@ -57,20 +54,15 @@ blocks_in (p ∷ ps) = cond (has_block p) (block_in p ∷ blocks_in ps) (blocks_
 abbrev pub place_for : Block → Place
 place_for b = record { mark = b.number.0 + 1; leaf = b.leaf.0; words = b.words; eight = b.eight }
 
--- the index, from i on, of the first element that passes a test
-abbrev pub first_from : {X : Type 0} → (X → Bool) → ℕ → List X → Option ℕ
-first_from test i [] = None
-first_from test i (x ∷ xs) = cond (test x) (Some i) (first_from test (suc i) xs)
-
 abbrev pub lowest_empty : List Place → Option ℕ
-lowest_empty ps = first_from is_empty 0 ps
+lowest_empty ps = position is_empty ps
 
 -- the place has a block of the number n
 abbrev pub holds : ℕ → Place → Bool
 holds n p = p.mark == n + 1
 
 abbrev pub place_of : ℕ → List Place → Option ℕ
-place_of n ps = first_from (holds n) 0 ps
+place_of n ps = position (holds n) ps
 
 -- a place emptied, or filled: the other places keep their words
 abbrev pub emptied : List Place → Option ℕ → List Place

@@ -3,10 +3,11 @@ ghost use Rattle.std.specs.Prelude.{◌≡◌, ◌^◌, ◌<◌, true, if◌then
 ghost use Rattle.tree.specs.Entries.{EntryCounts, moves_of, total, all_depths};
 ghost use Rattle.tree.specs.Paths.{is_depth};
 
-use crate::paths::DEEPEST;
+use crate::bucket::BUCKET_WORDS;
+use crate::paths::is_depth;
 
-// Bytes that one move of a bucket transfers: forty words.
-pub const BUCKET_BYTES: u32 = 160;
+// Bytes that one move of a bucket transfers, four for each word.
+pub const BUCKET_BYTES: u32 = 4 * BUCKET_WORDS as u32;
 
 // What a row is asked to do: a request fetches and dequeues twice, a drain dequeues once.
 #[derive(Clone, Copy, PartialEq, Eq, Debug)]
@@ -16,11 +17,12 @@ pub enum Work {
 }
 
 // How many buckets this work moves in a row of this depth.
+#[tactic(auto, using(crate::proofs::Counts::entry_counts))]
 pub fn moves(work: Work, depth: u32) -> Option<u32>
     ensures value { result ≡ (if is_depth depth then Some (moves_of work depth) else None) }
     ensures counts { EntryCounts }
 {
-    if depth == 0 || depth > DEEPEST {
+    if !is_depth(depth) {
         return None;
     }
     match work {

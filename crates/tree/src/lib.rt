@@ -5,6 +5,7 @@ pub mod block;
 pub mod bucket;
 pub mod entries;
 pub mod numbers;
+pub mod path;
 pub mod paths;
 pub mod place;
 pub mod prescribed;

@@ -1,4 +1,4 @@
-// Three sorts of number. No call takes one for another, and `paths::bucket_at` alone turns a leaf into a bucket number.
+// Three sorts of number. No call takes one for another, and only a `Path` turns a leaf into a bucket number.
 
 // The number of a record, or of a page, within its row.
 #[derive(Clone, Copy, PartialEq, Eq, Debug)]

@@ -1,21 +1,13 @@
+use rig::given::block;
 use std::test::Fail;
-use tree::block::Block;
 use tree::bucket::Bucket;
-use tree::numbers::{Leaf, RecordNumber};
+use tree::numbers::RecordNumber;
 use tree::queue::Queue;
-
-fn block(number: u32, leaf: u32) -> Block {
-    Block {
-        number: RecordNumber(number),
-        leaf: Leaf(leaf),
-        words: [number; 8],
-    }
-}
 
 #[test]
 fn words_of_a_bucket(rt: HostRuntime) {
     let mut bucket = Bucket::empty();
-    assert!(rt; bucket.put_in(block(6, 3)).is_ok());
+    assert!(rt; bucket.put_in(block(6, 3, 6)).is_ok());
     let words = bucket.to_words();
     assert_eq!(rt; words[0], 7);
     assert_eq!(rt; words[1], 3);
@@ -31,12 +23,12 @@ fn words_of_a_bucket(rt: HostRuntime) {
 fn a_full_bucket_hands_back(rt: HostRuntime) {
     let mut bucket = Bucket::empty();
     for number in 0..4 {
-        assert!(rt; bucket.put_in(block(number, 0)).is_ok());
+        assert!(rt; bucket.put_in(block(number, 0, number)).is_ok());
     }
-    assert!(rt; bucket.put_in(block(9, 0)).is_err());
+    assert!(rt; bucket.put_in(block(9, 0, 9)).is_err());
     assert!(rt; bucket.take_out(RecordNumber(2)).is_some());
     assert_eq!(rt; bucket.lowest_empty(), Some(2));
-    assert!(rt; bucket.put_in(block(u32::MAX, 0)).is_err());
+    assert!(rt; bucket.put_in(block(u32::MAX, 0, u32::MAX)).is_err());
     assert!(rt; bucket.take_out(RecordNumber(2)).is_none());
 }
 
@@ -51,10 +43,11 @@ fn a_place_that_is_neither(rt: HostRuntime) {
 
 #[test]
 fn a_number_waits_once(rt: HostRuntime) -> Result<(), Fail> {
-    let Ok(queue) = Queue::empty().arrive(block(5, 1)) else {
-        return Err(Fail::new("the first block is refused"));
-    };
-    assert!(rt; queue.arrive(block(5, 2)).is_err());
+    let queue = Queue::empty()
+        .arrive(block(5, 1, 5))
+        .ok()
+        .ok_or("the first block is refused")?;
+    assert!(rt; queue.arrive(block(5, 2, 5)).is_err());
     let (rest, taken) = queue.take_out(RecordNumber(5));
     assert!(rt; taken.is_some());
     assert_eq!(rt; rest.len(), 0);

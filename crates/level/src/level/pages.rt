@@ -1,12 +1,13 @@
 // The pages of a level: which page has a number's leaf, and what a page holds.
-ghost use Rattle.std.specs.Prelude.{◌≡◌, ◌/◌};
-ghost use Rattle.level.specs.Levels.{page_words, words_found};
+ghost use Rattle.std.specs.Prelude.{◌≡◌, ◌/◌, Some};
+ghost use Rattle.level.specs.Levels.{page_with, page_words};
 ghost use Rattle.posmap.specs.Maps.{leaves_per_page};
 ghost use Rattle.record.specs.Pages.{leaves_of};
 
 use record::kind::RecordKind;
 use record::page::{LEAVES_PER_PAGE, LeafPage};
-use tree::block::Block;
+use row::change::Change;
+use tree::block::BLOCK_WORDS;
 use tree::numbers::{Leaf, RecordNumber};
 
 // The page that has the leaf of a number.
@@ -16,26 +17,29 @@ pub(crate) fn page_number(number: RecordNumber) -> RecordNumber
     RecordNumber(number.0 / LEAVES_PER_PAGE)
 }
 
-// The page in the block that was found. An absent one is eight zeros.
-pub(crate) fn page_in(found: Option<Block>) -> LeafPage
-    ensures { leaves_of result ≡ page_words (words_found found) }
+// The page in the words that stood there. An absent one is eight zeros.
+pub(crate) fn page_in(words: Option<[u32; BLOCK_WORDS]>) -> LeafPage
+    ensures { leaves_of result ≡ page_words words }
 {
-    match found {
-        Some(block) => LeafPage::from_words(block.words),
+    match words {
+        Some(words) => LeafPage::from_words(words),
         None => LeafPage::zero(),
     }
 }
 
-// The block that holds a page under its number, with the page's own leaf.
-pub(crate) fn block_for(number: RecordNumber, leaf: Leaf, page: LeafPage) -> Block
-    ensures number { result.number ≡ number }
-    ensures leaf { result.leaf ≡ leaf }
-    ensures words { result.words ≡ leaves_of page }
-{
-    let words = page.to_words();
-    Block {
-        number,
-        leaf,
-        words,
+// What a swap makes of a page: a number's leaf is replaced.
+#[derive(Clone, Copy)]
+pub(crate) struct NewLeaf {
+    pub(crate) number: RecordNumber,
+    pub(crate) leaf: Leaf,
+}
+
+impl Change for NewLeaf {
+    ghost changed = { λ c words. Some (page_with (page_words words) c.number.0 c.leaf.0) };
+
+    // A page arrives always, also where nothing of it changed: the log must not tell.
+    fn change(self, found: Option<[u32; BLOCK_WORDS]>) -> Option<[u32; BLOCK_WORDS]> {
+        let page = page_in(found).with_leaf(self.number, self.leaf);
+        Some(page.to_words())
     }
 }

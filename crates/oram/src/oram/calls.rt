@@ -9,21 +9,18 @@ ghost use Rattle.std.specs.Prelude.{◌≡◌};
 
 use crate::fault::OramFault;
 use crate::oram::Oram;
-use crate::oram::work::drain_row;
-use posmap::fault::LevelFault;
+use front::fitness::COINS_PER_DRAIN;
 use posmap::interface::PositionMap;
 use record::kind::RecordKind;
 use store::interface::BucketStore;
+use tree::block::BLOCK_WORDS;
 use tree::numbers::{Leaf, RecordNumber};
 
 // The record in the words that were found.
-fn record_in<K: RecordKind>(words: Option<[u32; 8]>) -> Option<K>
+fn record_in<K: RecordKind>(words: Option<[u32; BLOCK_WORDS]>) -> Option<K>
     ensures { result ≡ option_map K.RecordKind.made words }
 {
-    match words {
-        Some(words) => Some(K::from_words(words)),
-        None => None,
-    }
+    Some(K::from_words(words?))
 }
 
 impl<K: RecordKind, S: BucketStore, P: PositionMap> Oram<K, S, P> {
@@ -33,7 +30,7 @@ impl<K: RecordKind, S: BucketStore, P: PositionMap> Oram<K, S, P> {
         ensures law { Lawful K.RecordKind S.BucketStore P.PositionMap (leaf_numbers coins.now) self.old self.new opening (done P.Fault.CardFault result) }
     {
         self.fit()?;
-        if self.opened >= self.below.len() {
+        if self.opened >= self.front.below.len() {
             return Err(OramFault::AllOpened);
         }
         self.request(RecordNumber(self.opened), None, coins)?;
@@ -76,12 +73,8 @@ impl<K: RecordKind, S: BucketStore, P: PositionMap> Oram<K, S, P> {
         ensures law { Lawful K.RecordKind S.BucketStore P.PositionMap (leaf_numbers coins.now) self.old self.new draining (done P.Fault.CardFault result) }
     {
         self.fit()?;
-        self.drain_tested(coins)?;
-        let [along, rest @ ..] = coins else {
-            return Err(LevelFault::WrongCoins.into());
-        };
-        self.below.drain(rest)?;
-        self.queue = drain_row(&mut self.store, self.queue, self.depth, *along);
+        self.front.shares(coins, COINS_PER_DRAIN)?;
+        self.front.drain(coins)?;
         Ok(())
     }
 }

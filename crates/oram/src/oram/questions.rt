@@ -1,4 +1,4 @@
-// The questions of an Oram: those of the map, with row 0 in front. None changes anything.
+// The questions of an Oram: those of its row 0 in front of the map. None changes anything.
 ghost use Rattle.std.specs.Prelude.{◌≡◌, ◌<◌, min, length, IfOk, slice_index};
 ghost use Rattle.history.specs.Histories.{History, deeds, moves_since};
 ghost use Rattle.oram.specs.Orams.{records_of, rows_of};
@@ -8,7 +8,6 @@ ghost use Rattle.posmap.specs.Maps.{entry_refusal, row_at};
 
 use crate::fault::OramFault;
 use crate::oram::Oram;
-use posmap::fault::LevelFault;
 use posmap::interface::PositionMap;
 use record::kind::RecordKind;
 use store::interface::BucketStore;
@@ -19,42 +18,27 @@ impl<K: RecordKind, S: BucketStore, P: PositionMap> Oram<K, S, P> {
     pub fn len(&self) -> u32
         ensures { result ≡ records_of P.PositionMap self.now }
     {
-        self.below.len()
+        self.front.below.len()
     }
 
     // How many rows there are; the count stops at 255.
     pub fn row_count(&self) -> u8
         ensures { result ≡ min 255 (length (rows_of S.BucketStore P.PositionMap self.now)) }
     {
-        self.below.row_count().saturating_add(1)
+        self.front.row_count()
     }
 
     // A row's depth, span and entries used: 0 of a missing row.
     pub fn row_depth(&self, row: u8) -> u32
         ensures { result ≡ (row_at (rows_of S.BucketStore P.PositionMap self.now) row).depth }
     {
-        if row == 0 {
-            return self.depth;
-        }
-        self.below.row_depth(row - 1)
+        self.front.row_depth(row)
     }
 
     pub fn row_span(&self, row: u8) -> u32
         ensures { result ≡ (row_at (rows_of S.BucketStore P.PositionMap self.now) row).span }
     {
-        if row == 0 {
-            return self.store.log_span();
-        }
-        self.below.row_span(row - 1)
-    }
-
-    fn used(&self, row: u8) -> u32
-        ensures { result ≡ length (row_at (rows_of S.BucketStore P.PositionMap self.now) row).log }
-    {
-        if row == 0 {
-            return self.store.log_used();
-        }
-        self.below.row_used(row - 1)
+        self.front.row_span(row)
     }
 
     // Its contract says too that the entries since the last tear-off follow from calls, accepted turns and depths alone.
@@ -62,7 +46,7 @@ impl<K: RecordKind, S: BucketStore, P: PositionMap> Oram<K, S, P> {
         ensures value { result ≡ length (row_at (rows_of S.BucketStore P.PositionMap self.now) row).log }
         ensures counted { (h : History K) → Worked K.RecordKind S.BucketStore P.PositionMap h self.now → row < length (rows_of S.BucketStore P.PositionMap self.now) → result ≡ moves_since (row_at (rows_of S.BucketStore P.PositionMap self.now) row).depth (deeds h) }
     {
-        self.used(row)
+        self.front.row_used(row)
     }
 
     // Entry k of a row's log, counted from 0, the oldest.
@@ -70,12 +54,6 @@ impl<K: RecordKind, S: BucketStore, P: PositionMap> Oram<K, S, P> {
         ensures card { oram_card P.Fault.CardFault result ≡ entry_refusal (rows_of S.BucketStore P.PositionMap self.now) row k }
         ensures value { IfOk result (λ b. b.0 ≡ slice_index (row_at (rows_of S.BucketStore P.PositionMap self.now) row).log k) }
     {
-        if row > 0 {
-            return Ok(self.below.row_entry(row - 1, k)?);
-        }
-        match self.store.log_entry(k) {
-            Ok(bucket) => Ok(bucket),
-            Err(_) => Err(LevelFault::NoEntry(0).into()),
-        }
+        Ok(self.front.row_entry(row, k)?)
     }
 }

@@ -10,8 +10,10 @@ ghost use Rattle.posmap.specs.Maps.{rows_zeroed};
 ghost use Rattle.store.specs.Stores.{zeroed};
 
 use crate::oram::Oram;
+use front::front::Front;
 use posmap::interface::MapUpkeep;
 use record::kind::RecordKind;
+use row::row::Row;
 use std::marker::PhantomData;
 use store::interface::StoreUpkeep;
 use tree::queue::Queue;
@@ -19,24 +21,27 @@ use tree::queue::Queue;
 impl<K: RecordKind, S: StoreUpkeep, P: MapUpkeep> Oram<K, S, P> {
     // The only way to make an Oram. It clears the store and the map, so that whatever they held, the Oram is in order. Its contract
     // has the law of every run that begins so.
-    pub fn begin(mut store: S, mut below: P, depth: u32) -> Oram<K, S, P>
+    pub fn begin(store: S, below: P, depth: u32) -> Oram<K, S, P>
         ensures begun { Begun S.BucketStore P.PositionMap result }
-        ensures depth { result.depth ≡ depth }
-        ensures buckets { S.BucketStore.buckets result.store ≡ zeroed (S.BucketStore.buckets store) }
+        ensures depth { result.front.row.depth ≡ depth }
+        ensures buckets { S.BucketStore.buckets result.front.row.store ≡ zeroed (S.BucketStore.buckets store) }
         ensures records { records_of P.PositionMap result ≡ length (P.PositionMap.leaves below) }
         ensures rows { rows_of S.BucketStore P.PositionMap result ≡ rows_zeroed (front_rows depth (P.PositionMap.leaves below) (S.BucketStore.span store) (S.BucketStore.log store) (P.PositionMap.rows below)) }
         ensures unfit { unfit_of S.BucketStore P.PositionMap result ≡ front_unfit (fit_up_to most_records depth (length (S.BucketStore.buckets store)) (length (P.PositionMap.leaves below)) (length (P.PositionMap.rows below))) (P.PositionMap.unfit below) }
-        ensures below { P.MapUpkeep.cleared below result.below }
+        ensures below { P.MapUpkeep.cleared below result.front.below }
         ensures worked { Worked K.RecordKind S.BucketStore P.PositionMap [] result }
         ensures runs { RunsAreWorked K.RecordKind S.BucketStore P.PositionMap }
     {
-        store.clear();
-        below.clear();
-        Oram {
+        let queue = Queue::empty();
+        let row = Row {
             store,
-            below,
-            queue: Queue::empty(),
+            queue,
             depth,
+        };
+        let mut front = Front { row, below };
+        front.clear();
+        Oram {
+            front,
             opened: 0,
             kind: PhantomData,
         }
@@ -47,27 +52,23 @@ impl<K: RecordKind, S: StoreUpkeep, P: MapUpkeep> Oram<K, S, P> {
     pub(crate) fn tear_off(&mut self)
         ensures does { (coins : List ℕ) → Does K.RecordKind S.BucketStore P.PositionMap coins self.old self.new tearing (did None) }
         ensures law { (coins : List ℕ) → Lawful K.RecordKind S.BucketStore P.PositionMap coins self.old self.new tearing (did None) }
-        ensures below { P.MapUpkeep.torn self.old.below self.new.below }
+        ensures below { P.MapUpkeep.torn self.old.front.below self.new.front.below }
     {
-        self.store.tear_off();
-        self.below.tear_off();
+        self.front.tear_off();
     }
 }
 
 impl<K, S, P> Oram<K, S, P> {
     // Hands store and map back, as they are.
     pub fn into_parts(self) -> (S, P)
-        ensures store { result.0 ≡ self.store }
-        ensures below { result.1 ≡ self.below }
+        ensures store { result.0 ≡ self.front.row.store }
+        ensures below { result.1 ≡ self.front.below }
     {
         let Oram {
-            store,
-            below,
-            queue: _,
-            depth: _,
+            front,
             opened: _,
             kind: _,
         } = self;
-        (store, below)
+        front.into_parts()
     }
 }

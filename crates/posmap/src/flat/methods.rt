@@ -1,16 +1,13 @@
 // What a flat map does: it keeps each leaf where the number says, and refuses all that it has no leaf or no use for.
-ghost use Rattle.posmap.specs.Faults.{flat_number, flat_row};
+ghost use Rattle.posmap.specs.Faults.{flat_card};
 ghost use Rattle.posmap.specs.Flat.{flat_cleared, flat_drained, flat_leaves, flat_length, flat_ordered, flat_swapped, flat_torn, longest};
 ghost use Rattle.posmap.specs.Maps.{DrainDone, SameFrame, SameMeaning, SwapDone, card_of, drain_refusal, leaf_numbers, swap_refusal};
 ghost use Rattle.std.specs.Prelude.{◌≡◌, true, [], replicate, is_err, IfOk, None, OnOk};
 
 use crate::fault::FlatFault;
 use crate::flat::{FlatMap, LONGEST};
-use crate::interface::{MapUpkeep, PositionMap};
+use crate::interface::{MapUpkeep, PositionMap, WIDEST_LEAF};
 use tree::numbers::{BucketNumber, Leaf, RecordNumber};
-
-// The widest leaf that a map may be given.
-const WIDEST_LEAF: u32 = 4095;
 
 // How many coins a call takes: coins are for rows, and there is none.
 const COINS: usize = 0;
@@ -23,7 +20,7 @@ impl FlatMap {
     {
         let len = length.clamp(1, LONGEST);
         FlatMap {
-            table: [0; 128],
+            table: [0; LONGEST as usize],
             len,
         }
     }
@@ -68,7 +65,7 @@ impl PositionMap for FlatMap {
 
     // A refused swap leaves the map as it was, value for value.
     fn swap(&mut self, number: RecordNumber, leaf: Leaf, coins: &[Leaf]) -> Result<Leaf, FlatFault>
-        ensures card { card_of flat_number flat_row result ≡ swap_refusal (flat_leaves self.old) [] None None number.0 leaf.0 (leaf_numbers coins.now) }
+        ensures card { card_of flat_card result ≡ swap_refusal (flat_leaves self.old) [] None None number.0 leaf.0 (leaf_numbers coins.now) }
         ensures frame { SameFrame (flat_leaves self.old) (flat_leaves self.new) [] [] None None }
         ensures order { flat_ordered self.old → flat_ordered self.new }
         ensures refused { is_err result ≡ true → SameMeaning (flat_leaves self.old) (flat_leaves self.new) [] [] None None }
@@ -92,7 +89,7 @@ impl PositionMap for FlatMap {
 
     // Nothing waits for a place: a drain leaves the map as it was, value for value, and so does a refused one.
     fn drain(&mut self, coins: &[Leaf]) -> Result<(), FlatFault>
-        ensures card { card_of flat_number flat_row result ≡ drain_refusal [] None (leaf_numbers coins.now) }
+        ensures card { card_of flat_card result ≡ drain_refusal [] None (leaf_numbers coins.now) }
         ensures frame { SameFrame (flat_leaves self.old) (flat_leaves self.new) [] [] None None }
         ensures order { flat_ordered self.old → flat_ordered self.new }
         ensures refused { is_err result ≡ true → SameMeaning (flat_leaves self.old) (flat_leaves self.new) [] [] None None }
@@ -136,7 +133,7 @@ impl MapUpkeep for FlatMap {
 
     // The whole table, so that nothing of the old leaves stays behind.
     fn clear(&mut self) {
-        self.table = [0; 128];
+        self.table = [0; LONGEST as usize];
     }
 
     // There is no log to empty.

@@ -6,7 +6,7 @@ ghost use Rattle.record.specs.Same.{same_page};
 ghost use Rattle.record.specs.WordsLemmas.{words_from-all};
 ghost use Rattle.std.proofs.Common.{rules, arith};
 
-use crate::kind::RecordKind;
+use crate::kind::{RECORD_WORDS, RecordKind};
 use crate::page::{LEAVES_PER_PAGE, LeafPage};
 use tree::numbers::{Leaf, RecordNumber};
 
@@ -21,7 +21,9 @@ impl LeafPage {
     pub fn zero() -> LeafPage
         ensures { leaves_of result ≡ replicate leaves_per_page 0 }
     {
-        LeafPage { leaves: [0; 8] }
+        LeafPage {
+            leaves: [0; RECORD_WORDS],
+        }
     }
 
     pub fn leaf(&self, number: RecordNumber) -> Leaf
@@ -50,13 +52,13 @@ impl RecordKind for LeafPage {
 
     ghost again = { λ x. same_page _ x (words_from-all 8 x.leaves x.eight) };
 
-    fn to_words(&self) -> [u32; 8]
+    fn to_words(&self) -> [u32; RECORD_WORDS]
         ensures { result ≡ leaves_of self.now }
     {
         self.leaves
     }
 
-    fn from_words(words: [u32; 8]) -> LeafPage
+    fn from_words(words: [u32; RECORD_WORDS]) -> LeafPage
         ensures value { result ≡ page_of words }
         ensures whole { leaves_of result ≡ words }
     {

@@ -38,14 +38,11 @@ impl Bucket {
         ensures parent { self.new.places ≡ moved_parent depth leaf.0 layer self.old.places child.old.places }
         ensures child { child.new.places ≡ moved_child depth leaf.0 layer self.old.places child.old.places }
     {
-        let Some(from) = self.chosen(child, depth, leaf, layer) else {
-            return;
-        };
-        // a child with no empty place has had its answer above
-        let Some(to) = child.lowest_empty() else {
-            return;
-        };
-        child.places[to] = self.places[from];
-        self.places[from] = Place::empty();
+        if let Some(from) = self.chosen(child, depth, leaf, layer)
+            && let Some(to) = child.lowest_empty()
+        {
+            child.places[to] = self.places[from];
+            self.places[from] = Place::empty();
+        }
     }
 }

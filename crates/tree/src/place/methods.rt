@@ -4,10 +4,12 @@ ghost use Rattle.tree.specs.Choice.{score};
 ghost use Rattle.tree.specs.Paths.{is_leaf};
 ghost use Rattle.tree.specs.Places.{block_in, empty_place, fits_place, has_block, holds, is_empty, place_at, place_for, place_words};
 
-use super::Place;
-use crate::block::Block;
+use super::{PLACE_WORDS, Place};
+use crate::block::{BLOCK_WORDS, Block};
+use crate::bucket::BUCKET_WORDS;
 use crate::numbers::{Leaf, RecordNumber};
 use crate::paths::shared;
+use std::array;
 
 impl Place {
     // Ten zeros.
@@ -17,54 +19,41 @@ impl Place {
         Place {
             mark: 0,
             leaf: 0,
-            words: [0; 8],
+            words: [0; BLOCK_WORDS],
         }
     }
 
     // The ten words from a place on.
-    pub(crate) fn read(from: &[u32; 40], at: usize) -> Place
-        requires { at + 10 ≤ 40 }
+    pub(crate) fn read(from: &[u32; BUCKET_WORDS], at: usize) -> Place
+        requires { at + PLACE_WORDS ≤ BUCKET_WORDS }
         ensures { result ≡ place_at from.now at }
     {
-        let words = [
-            from[at + 2],
-            from[at + 3],
-            from[at + 4],
-            from[at + 5],
-            from[at + 6],
-            from[at + 7],
-            from[at + 8],
-            from[at + 9],
-        ];
         Place {
             mark: from[at],
             leaf: from[at + 1],
-            words,
+            words: array::from_fn(|k| from[at + 2 + k]),
         }
     }
 
     // Puts the ten words into forty, from a place on.
-    pub(crate) fn write(&self, into: &mut [u32; 40], at: usize)
-        requires { at + 10 ≤ 40 }
+    pub(crate) fn write(&self, into: &mut [u32; BUCKET_WORDS], at: usize)
+        requires { at + PLACE_WORDS ≤ BUCKET_WORDS }
         ensures { into.new ≡ take at into.old ++ (place_words self.now ++ drop (at + 10) into.old) }
     {
         into[at] = self.mark;
         into[at + 1] = self.leaf;
-        into[at + 2..at + 10].copy_from_slice(&self.words);
+        into[at + 2..at + PLACE_WORDS].copy_from_slice(&self.words);
     }
 
     // The place that holds a block; none where its number plus 1 does not fit a word.
     pub fn holding(block: &Block) -> Option<Place>
         ensures { result ≡ (if fits_place block.now then Some (place_for block.now) else None) }
     {
-        let Some(mark) = block.number.0.checked_add(1) else {
-            return None;
-        };
-        let words = block.words;
+        let mark = block.number.0.checked_add(1)?;
         Some(Place {
             mark,
             leaf: block.leaf.0,
-            words,
+            words: block.words,
         })
     }
 
@@ -72,15 +61,7 @@ impl Place {
     pub fn is_empty(&self) -> bool
         ensures { result ≡ is_empty self.now }
     {
-        if self.mark != 0 || self.leaf != 0 {
-            return false;
-        }
-        for word in &self.words {
-            if *word != 0 {
-                return false;
-            }
-        }
-        true
+        *self == Place::empty()
     }
 
     // Whether the place has a block of that number.
@@ -94,14 +75,11 @@ impl Place {
     pub fn block(&self) -> Option<Block>
         ensures { result ≡ (if has_block self.now then Some (block_in self.now) else None) }
     {
-        if self.mark == 0 {
-            return None;
-        }
-        let words = self.words;
+        let number = self.mark.checked_sub(1)?;
         Some(Block {
-            number: RecordNumber(self.mark - 1),
+            number: RecordNumber(number),
             leaf: Leaf(self.leaf),
-            words,
+            words: self.words,
         })
     }
 

@@ -1,14 +1,11 @@
 // What a queue answers and how blocks come and go. A change makes a whole new queue: the old one is given up for it.
-ghost use Rattle.std.specs.Prelude.{◌≡◌, ◌<◌, ◌≤◌, true, false, [], ◌∷◌, ◌++◌, length, MatchResult, ◌==◌};
-ghost use Rattle.tree.specs.Blocks.{FirstAt, accepts, block_of, capacity, closed_up, first_block, lacking, others, rest_of};
+ghost use Rattle.std.specs.Prelude.{◌≡◌, ◌<◌, ◌≤◌, true, false, [], ◌∷◌, ◌++◌, length, position, MatchResult, ◌==◌};
+ghost use Rattle.tree.specs.Blocks.{accepts, block_of, capacity, first_block, has_number, lacking, numbered, others, rest_of};
 ghost use Rattle.tree.specs.Queues.{QueueLaw, queued};
 
-use crate::block::Block;
+use crate::block::{BLOCK_WORDS, Block};
 use crate::numbers::{Leaf, RecordNumber};
-use crate::queue::Queue;
-
-// How many blocks a queue may hold.
-const CAPACITY: usize = 32;
+use crate::queue::{CAPACITY, Queue};
 
 impl Queue {
     // A queue of no blocks. What fills the array is never seen: only the first `count` blocks are in the queue.
@@ -18,10 +15,12 @@ impl Queue {
         let blank = Block {
             number: RecordNumber(0),
             leaf: Leaf(0),
-            words: [0; 8],
+            words: [0; BLOCK_WORDS],
         };
-        let blocks = [blank; 32];
-        Queue { blocks, count: 0 }
+        Queue {
+            blocks: [blank; CAPACITY],
+            count: 0,
+        }
     }
 
     // How many blocks the queue has. Its contract has the law of every queue.
@@ -49,31 +48,39 @@ impl Queue {
     pub fn first(&self) -> Option<Block>
         ensures { result ≡ first_block (queued self.now) }
     {
-        if self.count == 0 {
-            return None;
-        }
-        Some(self.blocks[0])
+        self.waiting().first().copied()
+    }
+
+    // The blocks of the queue, the one that has waited longest first.
+    fn waiting(&self) -> &[Block]
+        ensures { result.now ≡ queued self.now }
+    {
+        &self.blocks[..self.count]
+    }
+
+    // Whether a block of that number waits.
+    fn has(&self, number: RecordNumber) -> bool
+        ensures { result ≡ has_number number.0 (queued self.now) }
+    {
+        self.waiting().iter().any(|block| block.number == number)
     }
 
     // The index of the block of a number.
     fn position(&self, number: RecordNumber) -> Option<usize>
-        ensures { FirstAt number.0 (queued self.now) result }
+        ensures { result ≡ position (numbered number.0) (queued self.now) }
     {
-        for i in 0..self.count {
-            if self.blocks[i].number.0 == number.0 {
-                return Some(i);
-            }
-        }
-        None
+        self.waiting()
+            .iter()
+            .position(|block| block.number == number)
     }
 
     pub fn find(&self, number: RecordNumber) -> Option<Block>
         ensures { result ≡ block_of number.0 (queued self.now) }
     {
-        match self.position(number) {
-            Some(i) => Some(self.blocks[i]),
-            None => None,
-        }
+        self.waiting()
+            .iter()
+            .copied()
+            .find(|block| block.number == number)
     }
 
     // The block of a number leaves, and the others stay in order.
@@ -82,10 +89,7 @@ impl Queue {
         ensures taken { result.1 ≡ block_of number.0 (queued self) }
     {
         match self.position(number) {
-            Some(i) => {
-                let taken = self.blocks[i];
-                (self.remove(i), Some(taken))
-            }
+            Some(i) => (self.remove(i), Some(self.blocks[i])),
             None => (self, None),
         }
     }
@@ -94,20 +98,15 @@ impl Queue {
     pub fn arrive(self, block: Block) -> Result<Queue, (Queue, Block)>
         ensures { MatchResult result (λ q. (accepts block (queued self) ≡ true) × (queued q ≡ queued self ++ block ∷ [])) (λ e. (accepts block (queued self) ≡ false) × (e.0 ≡ self) × (e.1 ≡ block)) }
     {
-        if self.is_full() {
+        if self.is_full() || self.has(block.number) {
             return Err((self, block));
         }
-        match self.position(block.number) {
-            Some(_) => Err((self, block)),
-            None => {
-                let mut blocks = self.blocks;
-                blocks[self.count] = block;
-                Ok(Queue {
-                    blocks,
-                    count: self.count + 1,
-                })
-            }
-        }
+        let mut blocks = self.blocks;
+        blocks[self.count] = block;
+        Ok(Queue {
+            blocks,
+            count: self.count + 1,
+        })
     }
 
     // The first block leaves, and the others move up. An empty queue stays as it is.
@@ -126,20 +125,11 @@ impl Queue {
         requires { i < self.count }
         ensures { queued result ≡ lacking i (queued self) }
     {
-        let blocks = close_up(self.blocks, i);
+        let mut blocks = self.blocks;
+        blocks.copy_within(i + 1.., i);
         Queue {
             blocks,
             count: self.count - 1,
         }
     }
-}
-
-// The blocks after place i, each one place up. The last block stays in its place too, where no queue has it any more.
-fn close_up(mut blocks: [Block; 32], i: usize) -> [Block; 32]
-    ensures { result ≡ closed_up i blocks }
-{
-    for k in i..CAPACITY - 1 {
-        blocks[k] = blocks[k + 1];
-    }
-    blocks
 }

@@ -2,9 +2,10 @@ use Rattle.std.proofs.Common.{None, refl}
 use Rattle.std.proofs.lemmas.Result.{err_from_is_err_and}
 use Rattle.posmap.specs.Maps.{leaf_numbers, naming}
 use Rattle.history.specs.Histories.{opening}
+use Rattle.front.proofs.Fits.{unfit_refuses}
 use Rattle.oram.specs.Calls.{Does, open_time, done}
 use Rattle.oram.specs.Orams.{records_of, unfit_of}
-use Rattle.oram.proofs.Endings.{one_more, open_done, open_passes, refused_at_once, request_refused, unfit_refuses}
+use Rattle.oram.proofs.Endings.{one_more, open_done, open_passes, refused_at_once, request_refused}
 use Rattle.oram.proofs.Laws.{lawful}
 use Rattle.oram.proofs.oram.Oram.open.Goals as goal
 
@@ -17,7 +18,7 @@ returns-in_err-fit g c =
     let cs = leaf_numbers c.args.coins.now in
     let p = err_from_is_err_and c.from_residual.result c.from_residual.ensures.1 in
     let d : Does k s m cs o o opening (done g.P.Fault.CardFault c.from_residual.result) =
-    rw (p.1, p.2) (refused_at_once k s m cs o opening _ (unfit_refuses k s m cs o (naming 1 (unfit_of s m o)) _ _ c.in_err-fit.ensures)) in
+    rw (p.1, p.2) (refused_at_once k s m cs o opening _ (unfit_refuses (naming 1 (unfit_of s m o)) _ _ c.in_err-fit.ensures)) in
     record { does = d; law = lawful k s m g.met.K.RecordKind.again cs o o opening _ d }
 
 pub returns-in_err-request : goal.returns-in_err-request

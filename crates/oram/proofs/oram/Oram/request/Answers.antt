@@ -1,96 +1,79 @@
-use Rattle.std.proofs.Common.{◌≡◌, ◌-◌, ◌<◌, length, get_or, take, drop, sym, refl, ap, ◌∙◌, subst, arith, rules}
+use Rattle.std.proofs.Common.{ℕ, List, Option, Err, refl, ◌∙◌, arith}
 use Rattle.std.proofs.lemmas.Bool.{false≢true}
-use Rattle.posmap.specs.Maps.{SwapDone, leaf_numbers, swap_refusal}
-use Rattle.row.specs.Rows.{decoded_row}
-use Rattle.front.specs.Fronts.{front_rows}
-use Rattle.front.proofs.Coins.{at, left, length_numbers, numbers_at}
-use Rattle.front.proofs.Frames.{rows_kept, unfit_kept}
-use Rattle.oram.specs.Orams.{most_records, row_of}
-use Rattle.oram.proofs.Asked.{as_numbers, asked}
-use Rattle.oram.proofs.Cards.{no_card}
+use Rattle.std.proofs.lemmas.Result.{err_from_is_err_and}
+use Rattle.posmap.specs.Maps.{leaf_numbers}
+use Rattle.tree.specs.Queues.{queued}
+use Rattle.front.proofs.Asking.{asked_at_once}
+use Rattle.front.proofs.Fits.{request_five, request_rest}
+use Rattle.oram.specs.declared.oram.Oram.{Oram}
+use Rattle.oram.specs.Orams.{most_records}
+use Rattle.oram.proofs.Asked.{asked}
+use Rattle.oram.proofs.Cards.{same_place}
+use Rattle.oram.proofs.Endings.{frame_kept, refused_ask}
 use Rattle.oram.proofs.Tested.{request_passes}
 use Rattle.oram.proofs.oram.Oram.request.Goals as goal
 
-pub returns-in_default : goal.returns-in_default
-returns-in_default g c =
-    let xs = c.args.coins.now in
-    let few : length xs < 3 = search rules in
-    let p = request_passes g.S.BucketStore g.P.PositionMap c.args.self.now (leaf_numbers xs) c.requires.fit c.args.number.0 c.requires.number c.in_ok-tested.ensures in
-    let n = length_numbers xs in
-    let m = p.many in
-    absurd (let z : ⊥ = omega arith in z)
-
-pub returns-in_err-shown : goal.returns-in_err-shown
-returns-in_err-shown g c =
-    let xs = c.args.coins.now in
-    let b = c.args.self.now.below in
+pub returns-in_err-shares : goal.returns-in_err-shares
+returns-in_err-shares g c =
+    let o = c.args.self.now in
+    let f = o.front in
+    let s = g.S.BucketStore in
     let m = g.P.PositionMap in
-    let p = request_passes g.S.BucketStore m c.args.self.now (leaf_numbers xs) c.requires.fit c.args.number.0 c.requires.number c.in_ok-tested.ensures in
-    let ask = swap_refusal (m.leaves b) (m.rows b) (m.unfit b) (m.full b) c.args.number.0 in
-    let rest = leaf_numbers (take (length xs - 3) (drop 3 xs)) in
-    let same : ask (at xs 0) rest ≡ ask (get_or (leaf_numbers xs) 0 0) (drop 3 (leaf_numbers xs)) =
-    ap (λ a. ask a rest) (numbers_at xs 0) ∙ ap (ask (get_or (leaf_numbers xs) 0 0)) (left 3 xs) in
-    absurd (no_card (p.lower ∙ (sym same ∙ sym c.in_err-shown.ensures.card)))
+    let cs = leaf_numbers c.args.coins.now in
+    let n = c.args.number.0 in
+    let p = err_from_is_err_and c.from_residual.result c.from_residual.ensures.1 in
+    rw p.1
+    (refused_ask g.K.RecordKind s m cs o g.P.Fault.CardFault n c.args.put p.0
+    (same_place {T = Option (List ℕ)} g.P.Fault.CardFault _ p.0 (Err p.0) refl p.2
+    ∙ request_five s m most_records f.row.store f.below f.row.depth cs c.requires.fit (queued f.row.queue) (m.leaves f.below) n 0
+    c.requires.number _ c.in_err-shares.ensures))
 
-pub request_row-answer-requires : goal.request_row-answer-requires
-request_row-answer-requires g c =
-    let xs = c.args.coins.now in
-    let p = request_passes g.S.BucketStore g.P.PositionMap c.args.self.now (leaf_numbers xs) c.requires.fit c.args.number.0 c.requires.number c.in_ok-tested.ensures in
-    record {
-      fit = p.fit;
-      leaves = (rw (numbers_at xs 0) p.leaves.0, (rw (numbers_at xs 1) p.leaves.1, rw (numbers_at xs 2) p.leaves.2));
-      free = p.free;
-      room = p.room;
-    }
+pub returns-in_err-request : goal.returns-in_err-request
+returns-in_err-request g c =
+    let o = c.args.self.now in
+    let f = o.front in
+    let s = g.S.BucketStore in
+    let m = g.P.PositionMap in
+    let cs = leaf_numbers c.args.coins.now in
+    let n = c.args.number.0 in
+    let e = c.in_err-request.ensures in
+    let p = err_from_is_err_and c.from_residual-in_err-request.result c.from_residual-in_err-request.ensures.1 in
+    rw (p.1, e.refused refl)
+    (refused_ask g.K.RecordKind s m cs o g.P.Fault.CardFault n c.args.put p.0
+    (same_place {T = Option (List ℕ)} g.P.Fault.CardFault _ p.0 (Err p.0) refl p.2
+    ∙ (e.card
+    ∙ (asked_at_once s m most_records f cs c.requires.fit n
+    ∙ request_rest s m most_records f.row.store f.below f.row.depth cs c.requires.fit (queued f.row.queue) (m.leaves f.below) n 0
+    c.requires.number n c.requires.number (omega arith) c.in_ok-shares.ensures))))
 
 pub returns : goal.returns
 returns g c =
     let o = c.args.self.now in
-    let D = o.depth in
-    let xs = c.args.coins.now in
-    let cs = leaf_numbers xs in
-    let n = c.args.number.0 in
+    let f = o.front in
     let s = g.S.BucketStore in
     let m = g.P.PositionMap in
-    let b = o.below in
-    let b' = c.swap.new.self in
-    let t = c.request_row-answer.new.store in
-    let p = request_passes s m o cs c.requires.fit n c.requires.number c.in_ok-tested.ensures in
-    let d = c.in_ok-shown.ensures in
-    let w = c.request_row-answer.ensures in
-    let shown = c.in_ok-shown.shown.0 in
-    let rest = leaf_numbers (take (length xs - 3) (drop 3 xs)) in
-    let before = row_of s o in
-    let after = decoded_row (s.buckets t) c.request_row-answer.result.queue in
-    let r = as_numbers D before after (s.log o.store) (s.log t) n _ xs c.args.put c.request_row-answer.result.words w.row in
-    let lower : SwapDone (m.leaves b) (m.leaves b') (m.rows b) (m.rows b') n (at xs 0) rest shown
-    → SwapDone (m.leaves b) (m.leaves b') (m.rows b) (m.rows b') n (get_or cs 0 0) (drop 3 cs) shown =
-    λ x. subst (λ k. SwapDone (m.leaves b) (m.leaves b') (m.rows b) (m.rows b') n (get_or cs 0 0) k shown) (left 3 xs)
-    (subst (λ a. SwapDone (m.leaves b) (m.leaves b') (m.rows b) (m.rows b') n a rest shown) (numbers_at xs 0) x) in
+    let cs = leaf_numbers c.args.coins.now in
+    let n = c.args.number.0 in
+    let e = c.in_ok-request.ensures in
+    let f' = c.request.new.self in
+    let o' : Oram g.row.K.Denot g.row.S.Denot g.row.P.Denot = record { front = f'; opened = o.opened; kind = o.kind } in
+    let refusal =
+    e.card
+    ∙ (asked_at_once s m most_records f cs c.requires.fit n
+    ∙ request_rest s m most_records f.row.store f.below f.row.depth cs c.requires.fit (queued f.row.queue) (m.leaves f.below) n 0
+    c.requires.number n c.requires.number (omega arith) c.in_ok-shares.ensures) in
+    let p = request_passes s m o cs n refusal in
+    let d = e.does in
     record {
-      refusal = c.in_ok-tested.ensures;
+      refusal = refusal;
       same = λ e. absurd (false≢true e);
-      frame = record {
-        rows = record {
-          length_stays = d.frame.length_stays;
-          rows_stay = rows_kept most_records D (s.log o.store) (s.log t) d.frame w.count w.span;
-          unfit_stays = unfit_kept most_records D (s.log o.store) (s.log t) d.frame w.count w.span;
-        };
-        buckets = w.count;
-      };
+      frame = frame_kept g.K.RecordKind s m cs o o' d.kept.map_stays d.kept.row_stays;
       opened = refl;
       done = λ ord.
-          let a = asked D (m.leaves b) (m.leaves b') (m.rows b) (m.rows b') before after (s.span o.store) (s.log o.store) (s.log t) n shown
-          cs c.args.put c.request_row-answer.result.words ord.1 (lower (d.done ord.0)) r p.depth c.requires.number p.leaves.0
-          p.room in (
+          let a = asked s f.row f'.row d.ask n d.number c.args.put c.in_ok-request.field-0 (m.leaves f.below) (m.leaves f'.below) (m.rows f.below) (m.rows f'.below) cs ord.1
+          (d.swapped ord.0) d.row d.entries d.kept.row_stays d.new d.first d.second p.itself.depth c.requires.number p.in_tree.0 p.room in (
             a.found_words,
-            record {
-              rows = ap (λ k. front_rows D (m.leaves b') k (s.log t) (m.rows b')) w.span ∙ a.all_rows;
-              arrives = r.arrives;
-              arrives_as = a.arrives_as;
-              row = a.row;
-              below = subst (λ k. m.swapped b n (get_or cs 0 0) k b') (left 3 xs) (subst (λ k. m.swapped b n k rest b') (numbers_at xs 0) d.does);
-            },
+            record { rows = a.all_rows; arrives = d.row.arrives; arrives_as = a.arrives_as; row = a.row; below = d.below },
             (d.order ord.0, a.ordered),
           );
     }

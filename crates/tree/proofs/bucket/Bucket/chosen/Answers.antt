@@ -1,6 +1,6 @@
-use Rattle.std.proofs.Common.{◌≡◌, ◌<◌, true, map, length, is_some, IfSome, sym, ap, ◌∙◌, subst, arith}
+use Rattle.std.proofs.Common.{◌≡◌, ◌<◌, true, map, length, is_some, arith, rules}
 use Rattle.tree.specs.Places.{lowest_empty}
-use Rattle.tree.proofs.ChoiceLaws.{best-chosen, best_keeps, best_moves, best_same, best_takes, best_within, score_at, scored}
+use Rattle.tree.proofs.ChoiceLaws.{best-chosen, best_keeps, best_moves, best_same, best_takes, score_at, scored}
 use Rattle.tree.proofs.bucket.Bucket.chosen.Goals as goal
 use Rattle.tree.proofs.bucket.Bucket.chosen.Goals.{then-score-top, else-score-top}
 
@@ -29,9 +29,9 @@ returns c =
     let parent = c.args.self.now.places in
     let child = c.args.child.now.places in
     let n : c.loop-i.i ≡ length parent = omega (arith, c.args.self.now.four) in
-    let room : is_some (lowest_empty child) ≡ true = ap is_some (sym c.lowest_empty.ensures.value) ∙ c.if-is_none.ensures in
+    let room : is_some (lowest_empty child) ≡ true = search rules in
     record {
       value = best-chosen D m d parent child _ _ _ n room c.loop-i.invariant;
       moves = best_moves D m d parent child _ _ _ n room c.loop-i.invariant;
-      within = subst (λ k. IfSome c.loop-i.best (λ i. i < k)) (n ∙ c.args.self.now.four) (best_within _ _ _ _ c.loop-i.invariant);
+      within = search rules;
     }

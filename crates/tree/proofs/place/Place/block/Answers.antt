@@ -1,9 +1,9 @@
-use Rattle.std.proofs.Common.{◌≡◌, true, refl, rules}
-use Rattle.tree.specs.Places.{has_block}
+use Rattle.std.proofs.Common.{not, refl, ap, arith}
+use Rattle.std.proofs.lemmas.Bool.{ne_eqb}
 use Rattle.tree.proofs.PlaceLaws.{same_block, some-given}
 use Rattle.tree.proofs.place.Place.block.Goals as goal
 
 pub returns : goal.returns
 returns c =
-    let has : has_block c.args.self.now ≡ true = search rules in
-    some-given _ _ _ has (same_block _ _ refl refl refl)
+    let one = c.in_ok-number.ensures in
+    some-given _ _ _ (ap not (ne_eqb c.args.self.now.mark 0 (λ z. omega (arith, one.0)))) (same_block _ _ one.1 refl refl)

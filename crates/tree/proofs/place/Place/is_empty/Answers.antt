@@ -1,20 +1,11 @@
-use Rattle.std.proofs.Common.{◌<◌, ◌≤◌, length, sym, ◌∙◌, arith}
-use Rattle.tree.proofs.PlaceLaws.{zero_again, zero_not, zero_end, rest_decides}
+use Rattle.std.proofs.Common.{◌&&◌, ◌∙◌, eqb, ap}
+use Rattle.std.specs.Cmp.Lexicographic.{pointwise}
+use Rattle.tree.specs.declared.place.Place.{Place}
+use Rattle.tree.proofs.PlaceLaws.{zero_words}
 use Rattle.tree.proofs.place.Place.is_empty.Goals as goal
-
-pub loop-word-preserved : goal.loop-word-preserved
-loop-word-preserved c =
-    let h : c.loop-word.word-index < length c.args.self.now.words = omega (arith, c.args.self.now.eight) in
-    zero_again c.args.self.now.words c.loop-word.word-index h c.if-word-ne0.false c.loop-word.invariant
-
-pub returns-then-word-ne0 : goal.returns-then-word-ne0
-returns-then-word-ne0 c =
-    let h : c.loop-word.word-index < length c.args.self.now.words = omega (arith, c.args.self.now.eight) in
-    rest_decides _ _ _ _ c.if-self-ne0.false c.if-self-ne0-2.false
-    (zero_not c.args.self.now.words c.loop-word.word-index h c.if-word-ne0.true c.loop-word.invariant)
 
 pub returns : goal.returns
 returns c =
-    let h : length c.args.self.now.words ≤ c.loop-word.word-index = omega (arith, c.args.self.now.eight) in
-    rest_decides _ _ _ _ c.if-self-ne0.false c.if-self-ne0-2.false
-    (sym c.loop-word.invariant ∙ zero_end c.args.self.now.words c.loop-word.word-index h)
+    let p = c.args.self.now in
+    let same = λ (q : Place). eqb p.mark q.mark && (eqb p.leaf q.leaf && pointwise eqb p.words q.words) in
+    c.eq.ensures ∙ (ap same c.empty.ensures ∙ ap (λ b. eqb p.mark 0 && (eqb p.leaf 0 && b)) (zero_words 8 p.words p.eight))

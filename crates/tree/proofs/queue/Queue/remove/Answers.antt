@@ -6,9 +6,9 @@ use Rattle.tree.proofs.queue.Queue.remove.Goals as goal
 
 pub invariant_of-result : goal.invariant_of-result
 invariant_of-result c =
-    let r = left_at c.args.self c.args.i c.close_up-blocks.result c.requires c.close_up-blocks.ensures in
+    let r = left_at c.args.self c.args.i c.copy_within.new.self c.requires c.copy_within.ensures.after in
     let a = apart-lacking c.args.i (queued c.args.self) c.args.self.distinct in
     record { long = omega arith; few = omega arith; distinct = ap apart r ∙ a }
 
 pub returns : goal.returns
-returns c = left_at c.args.self c.args.i c.close_up-blocks.result c.requires c.close_up-blocks.ensures
+returns c = left_at c.args.self c.args.i c.copy_within.new.self c.requires c.copy_within.ensures.after

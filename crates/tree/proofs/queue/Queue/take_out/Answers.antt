@@ -1,10 +1,7 @@
-use Rattle.std.proofs.Common.{sym, ◌∙◌, arith}
+use Rattle.std.proofs.Common.{◌∙◌}
 use Rattle.tree.specs.Queues.{queued}
-use Rattle.tree.proofs.QueueLaws.{block_none, others-none, left_numbered, taken_at, queued_long}
+use Rattle.tree.proofs.QueueLaws.{no_block, no_others, left_numbered, taken_at}
 use Rattle.tree.proofs.queue.Queue.take_out.Goals as goal
-
-pub remove-requires : goal.remove-requires
-remove-requires c = omega (arith, c.in-Some.ensures.0, queued_long c.args.self)
 
 pub returns-in-Some : goal.returns-in-Some
 returns-in-Some c =
@@ -17,6 +14,6 @@ returns-in-Some c =
 pub returns-in-None : goal.returns-in-None
 returns-in-None c =
     record {
-      rest = sym (others-none c.args.number.0 (queued c.args.self) c.in-None.ensures);
-      taken = sym (block_none c.args.number.0 (queued c.args.self) c.in-None.ensures);
+      rest = no_others c.args.number.0 (queued c.args.self) c.in-None.ensures;
+      taken = no_block c.args.number.0 (queued c.args.self) c.in-None.ensures;
     }

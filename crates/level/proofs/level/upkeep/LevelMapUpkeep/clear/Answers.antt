@@ -1,38 +1,24 @@
-use Rattle.std.proofs.Common.{refl}
-use Rattle.row.specs.Rows.{decoded_row}
-use Rattle.level.proofs.Cleared.{cleared_again, cleared_full, cleared_order, cleared_rows, cleared_unfit}
+use Rattle.std.proofs.Common.{length, ap, ◌∙◌}
+use Rattle.std.proofs.lemmas.List.{length-replicate}
+use Rattle.level.specs.Levels.{most_pages}
+use Rattle.level.specs.Meaning.{own_row, pages_of}
+use Rattle.level.proofs.Cleared.{cleared_again}
 use Rattle.level.proofs.level.upkeep.LevelMapUpkeep.clear.Goals as goal
 
 pub returns : goal.returns
 returns g c =
-    let v = c.args.self.now in
-    let s = v.store in
-    let p = v.below in
-    let s' = c.clear.new.self in
-    let p' = c.clear-2.new.self in
-    let es = c.clear.ensures in
-    let ep = c.clear-2.ensures in
-    let D = v.depth in
-    let bs = g.S.BucketStore.buckets in
-    let ls = g.P.PositionMap.leaves in
-    let rs = g.P.PositionMap.rows in
-    let us = g.P.PositionMap.unfit in
-    let q = c.empty-self.result in
-    let e = c.empty-self.ensures in
+    let s = c.args.self.now in
+    let st = g.S.BucketStore in
+    let m = g.P.PositionMap in
+    let e = c.clear.ensures in
+    let f = c.clear.new.self in
+    let pages = ap length e.leaves ∙ length-replicate (pages_of m s) 0 in
     record {
-      leaves = cleared_again D (bs s) (bs s') q (ls p) (ls p') (rs p) (rs p') (us p) (us p') es.holds e ep.leaves ep.rows
-          ep.unfit (decoded_row (bs s) v.queue);
-      rows = cleared_rows D (bs s) (bs s') q (ls p) (ls p') (rs p) (rs p') (us p) (us p') es.holds e ep.leaves ep.rows
-          ep.unfit (g.S.BucketStore.span s) (g.S.BucketStore.span s') (g.S.BucketStore.log s) (g.S.BucketStore.log s')
-          es.spans es.empties;
-      unfit = cleared_unfit D (bs s) (bs s') q (ls p) (ls p') (rs p) (rs p') (us p) (us p') es.holds e ep.leaves ep.rows
-          ep.unfit;
-      full = cleared_full D (bs s) (bs s') q (ls p) (ls p') (rs p) (rs p') (us p) (us p') es.holds e ep.leaves ep.rows
-          ep.unfit (g.P.PositionMap.full p') ep.full;
-      order = (
-        ep.order,
-        cleared_order D (bs s) (bs s') q (ls p) (ls p') (rs p) (rs p') (us p) (us p') es.holds e ep.leaves
-            ep.rows ep.unfit,
-      );
-      does = (ep.does, es.holds, es.empties, es.spans, e, refl);
+      leaves = cleared_again (st.buckets s.front.row.store) (st.buckets f.row.store) f.row.queue _ _ _ _ (own_row st s) e.does.buckets
+          e.does.queue (e.unfit most_pages) pages;
+      rows = e.rows;
+      unfit = e.unfit most_pages;
+      full = e.full;
+      order = e.order;
+      does = e.does;
     }

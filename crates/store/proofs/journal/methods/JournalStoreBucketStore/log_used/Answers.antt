@@ -3,4 +3,4 @@ use Rattle.store.specs.Shapes.{length_numbers}
 use Rattle.store.proofs.journal.methods.JournalStoreBucketStore.log_used.Goals as goal
 
 pub returns : goal.returns
-returns c = let s = c.args.self.now in sym (length_numbers s.used s.tail.items)
+returns c = let t = c.args.self.now.tail in sym (length_numbers t.used t.words.items)

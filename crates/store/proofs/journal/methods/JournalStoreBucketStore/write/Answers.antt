@@ -1,61 +1,32 @@
-use Rattle.std.proofs.Common.{◌≡◌, ◌+◌, ◌*◌, ◌≤◌, length, sym, refl, ap, ◌∙◌, arith}
-use Rattle.std.proofs.lemmas.List.{with_items_is}
-use Rattle.std.proofs.lemmas.Result.{err_from_is_err_and}
-use Rattle.std.proofs.lemmas.Bool.{true≢false}
+use Rattle.std.proofs.Common.{◌≡◌, ◌+◌, ◌≤◌, length, refl, ap, ◌∙◌, arith}
 use Rattle.store.specs.Journals.{journal_buckets, journal_log, journal_span}
-use Rattle.store.specs.Layout.{bucket_count, buckets_in, overwritten}
+use Rattle.store.specs.Layout.{buckets_in}
 use Rattle.store.specs.Shapes.{length_numbers}
-use Rattle.store.specs.Stores.{bucket_words, is_bucket}
-use Rattle.store.specs.Tails.{entry_words, write_entry, tail_span}
-use Rattle.store.proofs.Journaling.{added_long, added_number, added_write, base_bucket, journal_long, still_free}
-use Rattle.store.proofs.Transfers.{admitted, done_answer, refused_answer}
+use Rattle.store.specs.Stores.{bucket_words}
+use Rattle.store.specs.Tails.{replayed, tail_span}
+use Rattle.store.proofs.Journaling.{added_write, base_bucket}
+use Rattle.store.proofs.Transfers.{admitted}
 use Rattle.store.proofs.journal.methods.JournalStoreBucketStore.write.Goals as goal
 
-pub returns-in_err-_start : goal.returns-in_err-_start
-returns-in_err-_start c =
+pub enter-requires : goal.enter-requires
+enter-requires c =
     let s = c.args.self.now in
-    let p = err_from_is_err_and c.from_residual.result c.from_residual.ensures.1 in
-    let count = c.count_buckets.ensures ∙ ap bucket_count (c.len.ensures ∙ s.base.ok.0) in
-    rw (p.1, p.2) (record {
-      answer = refused_answer 1 c.span.result s.used c.count_buckets.result (journal_span s) (journal_log s) (journal_buckets s)
-          c.args.n.0 _ _ c.span.ensures (length_numbers s.used s.tail.items)
-          (journal_long s.used s.tail.items s.base.items ∙ sym count) c.in_err-_start.ensures;
-      enters = refl;
-      holds = refl;
-      spans = refl;
-      base = refl;
-      tail = refl;
-      refused = λ _. refl;
-    })
+    let a = admitted 1 (journal_span s) (journal_log s) (journal_buckets s) c.args.n.0 _ _ c.in_ok-admit.ensures in
+    omega (arith, a.free, length_numbers s.tail.used s.tail.words.items)
 
-pub invariant_of-self : goal.invariant_of-self
-invariant_of-self c =
+pub returns-clause-holds : goal.returns-clause-holds
+returns-clause-holds c =
     let s = c.args.self.now in
-    let a = admitted 1 c.span.result s.used c.count_buckets.result c.args.n.0 _ _ c.in_ok-_start.ensures in
-    let long = c.append.auto.tail ∙ c.deref_mut.ensures.len in
-    let same = ap length (with_items_is s.tail c.append.new.tail long) ∙ long ∙ s.tail.ok.0 in
-    record { few = still_free (s.used + 1) s.tail.items _ same (omega (arith, a.free, c.span.ensures)) }
-
-pub returns : goal.returns
-returns c =
-    let s = c.args.self.now in
+    let new = c.enter.new.self in
+    let t = s.tail.words.items in
+    let used = s.tail.used in
+    let bs = buckets_in s.base.items in
     let n = c.args.n.0 in
     let ys = c.args.words.now in
-    let count = c.count_buckets.ensures ∙ ap bucket_count (c.len.ensures ∙ s.base.ok.0) in
-    let a = admitted 1 c.span.result s.used c.count_buckets.result n _ _ c.in_ok-_start.ensures in
-    let free : s.used + 1 ≤ tail_span (length s.tail.items) = omega (arith, a.free, c.span.ensures) in
     let long : length ys ≡ bucket_words = omega arith in
-    let laid = with_items_is s.tail c.append.new.tail (c.append.auto.tail ∙ c.deref_mut.ensures.len)
-    ∙ c.append.ensures ∙ ap (λ xs. overwritten xs (entry_words * s.used) (write_entry n ys)) c.deref_mut.ensures.value in
-    let whole = journal_long s.used s.tail.items s.base.items ∙ sym count in
-    let there = base_bucket s.used s.tail.items s.base.items n (ap (λ l. is_bucket l n) whole ∙ a.there) in
-    record {
-      answer = done_answer 1 c.span.result s.used c.count_buckets.result (journal_span s) (journal_log s) (journal_buckets s) n
-          c.span.ensures (length_numbers s.used s.tail.items) whole a.none;
-      enters = added_number s.tail.items s.used 1 n ys _ free long laid;
-      holds = added_write s.tail.items s.used 1 n ys _ free long laid (buckets_in s.base.items) refl there.0;
-      spans = ap tail_span (added_long s.tail.items s.used 1 n ys _ free long laid);
-      base = refl;
-      tail = laid;
-      refused = λ e. absurd (true≢false e);
-    }
+    let a = admitted 1 (journal_span s) (journal_log s) (journal_buckets s) n _ _ c.in_ok-admit.ensures in
+    let free : used + 1 ≤ tail_span (length t) = omega (arith, a.free, length_numbers used t) in
+    let there = base_bucket used t s.base.items n a.there in
+    ap (λ k. replayed k new.tail.words.items (buckets_in new.base.items)) c.enter.ensures.used
+    ∙ ap (λ ws. replayed (used + 1) new.tail.words.items (buckets_in ws)) c.enter.ensures.base
+    ∙ added_write t used 1 n ys new.tail.words.items free long c.enter.ensures.tail bs refl there.0

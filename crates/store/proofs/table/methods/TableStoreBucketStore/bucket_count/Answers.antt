@@ -1,9 +1,8 @@
-use Rattle.std.proofs.Common.{sym, ap, ◌∙◌}
+use Rattle.std.proofs.Common.{length, sym, ap, ◌∙◌}
 use Rattle.store.specs.Layout.{bucket_count}
 use Rattle.store.proofs.Logs.{buckets_long}
 use Rattle.store.proofs.table.methods.TableStoreBucketStore.bucket_count.Goals as goal
 
 pub returns : goal.returns
 returns c =
-    let v = c.args.self.now.words in
-    c.count_buckets.ensures ∙ ap bucket_count (c.len.ensures ∙ v.ok.0) ∙ sym (buckets_long v.items)
+    c.count_buckets.ensures ∙ ap (λ ws. bucket_count (length ws)) c.deref.ensures.value ∙ sym (buckets_long c.args.self.now.words.items)

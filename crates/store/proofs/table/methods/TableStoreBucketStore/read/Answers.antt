@@ -1,53 +1,22 @@
-use Rattle.std.proofs.Common.{take, drop, sym, refl, ap, ◌∙◌, arith}
-use Rattle.std.proofs.lemmas.Result.{err_from_is_err_and}
-use Rattle.std.proofs.lemmas.Bool.{true≢false}
+use Rattle.std.proofs.Common.{take, drop, ap, ◌∙◌, arith}
 use Rattle.store.specs.Stores.{bucket_words}
-use Rattle.store.specs.Layout.{bucket_count, buckets_in}
-use Rattle.store.specs.Tables.{table_buckets, table_span, table_log}
-use Rattle.store.proofs.Logs.{buckets_long, log_long, bucket_words_lem}
-use Rattle.store.proofs.Transfers.{admitted, refused_answer, done_answer}
+use Rattle.store.specs.Tables.{table_buckets, table_log, table_span}
+use Rattle.store.proofs.Logs.{bucket_within, bucket_words_lem, buckets_long}
+use Rattle.store.proofs.Transfers.{admitted}
 use Rattle.store.proofs.table.methods.TableStoreBucketStore.read.Goals as goal
 
-pub returns-in_err-at : goal.returns-in_err-at
-returns-in_err-at c =
+pub copy_out-requires : goal.copy_out-requires
+copy_out-requires c =
     let s = c.args.self.now in
-    let p = err_from_is_err_and c.from_residual.result c.from_residual.ensures.1 in
-    let count = c.count_buckets.ensures ∙ ap bucket_count (c.len.ensures ∙ s.words.ok.0) in
-    rw (p.1, p.2) (record {
-      answer = refused_answer 1 c.span.result s.used c.count_buckets.result (table_span s) (table_log s) (table_buckets s) c.args.n.0 _ _
-          c.span.ensures (log_long s.entries.items s.used s.few) (buckets_long s.words.items ∙ sym count) c.in_err-at.ensures;
-      place = refl;
-      enters = refl;
-      holds = refl;
-      spans = refl;
-      words = refl;
-      entries = refl;
-      refused = λ _. refl;
-    })
+    let a = admitted 1 (table_span s) (table_log s) (table_buckets s) c.args.n.0 _ _ c.in_ok-at.ensures in
+    let w = bucket_within s.words.items c.args.n.0 a.low (omega (arith, a.high, buckets_long s.words.items)) in
+    omega (arith, w.0, w.1, a.same, c.deref.ensures.len, s.words.ok.0)
 
-pub enter-requires : goal.enter-requires
-enter-requires c =
-    let s = c.args.self.now in
-    let a = admitted 1 c.span.result s.used c.count_buckets.result c.args.n.0 _ _ c.in_ok-at.ensures in
-    omega (arith, a.free, c.span.ensures)
-
-pub returns : goal.returns
-returns c =
+pub returns-clause-place : goal.returns-clause-place
+returns-clause-place c =
     let s = c.args.self.now in
     let n = c.args.n.0 in
-    let count = c.count_buckets.ensures ∙ ap bucket_count (c.len.ensures ∙ s.words.ok.0) in
-    let a = admitted 1 c.span.result s.used c.count_buckets.result n _ _ c.in_ok-at.ensures in
-    record {
-      answer = done_answer 1 c.span.result s.used c.count_buckets.result (table_span s) (table_log s) (table_buckets s) n
-          c.span.ensures (log_long s.entries.items s.used s.few) (buckets_long s.words.items ∙ sym count) a.none;
-      place = c.copy_out.ensures
-          ∙ ap (λ ws. take bucket_words (drop c.in_ok-at.at ws)) c.deref.ensures.value
-          ∙ ap (λ at. take bucket_words (drop at s.words.items)) a.same
-          ∙ bucket_words_lem s.words.items n a.low (omega (arith, a.high, count));
-      enters = c.enter.ensures.enters;
-      holds = ap buckets_in c.enter.ensures.words;
-      spans = c.enter.ensures.spans;
-      words = c.enter.ensures.words;
-      entries = c.enter.ensures.entries;
-      refused = λ e. absurd (true≢false e);
-    }
+    let a = admitted 1 (table_span s) (table_log s) (table_buckets s) n _ _ c.in_ok-at.ensures in
+    c.copy_out.ensures ∙ ap (λ ws. take bucket_words (drop c.in_ok-at.at ws)) c.deref.ensures.value
+    ∙ ap (λ at. take bucket_words (drop at s.words.items)) a.same
+    ∙ bucket_words_lem s.words.items n a.low (omega (arith, a.high, buckets_long s.words.items))
