@@ -2,14 +2,14 @@
 use oram::oram::Oram;
 use posmap::flat::FlatMap;
 use record::calibration::CalibrationRecord;
-use rig::answers::{log_is, refusal};
+use rig::answers::refusal;
 use rig::given::blank_table;
 use std::alloc::{AllocError, Global};
 use std::process::Abort;
 use std::test::Fail;
 use store::interface::BucketStore;
 use store::table::TableStore;
-use tree::numbers::{Leaf, RecordNumber};
+use tree::numbers::{BucketNumber, Leaf, RecordNumber};
 
 type Region = Oram<CalibrationRecord, TableStore, FlatMap>;
 
@@ -37,6 +37,13 @@ fn opened(rt: &(impl Abort + AllocGlobal), span: usize) -> Result<Region, Fail> 
     Ok(oram)
 }
 
+// Whether the log of row 0 holds just these numbers, oldest first.
+fn log_is(oram: &Region, expected: &[u32]) -> bool {
+    oram.row_used(0) as usize == expected.len()
+        && (0..oram.row_used(0)).zip(expected).all(|(k, number)| oram.row_entry(0, k)
+            == Ok(BucketNumber(*number)))
+}
+
 #[test]
 fn a_record_comes_back(rt: HostRuntime) -> Result<(), Fail> {
     let mut oram = opened(&rt, 112)?;
@@ -62,8 +69,7 @@ fn the_log_of_a_day(rt: HostRuntime) -> Result<(), Fail> {
     assert_eq!(rt; refusal(oram.put(RecordNumber(0), &cab(5), &coins)), None);
     assert_eq!(rt; refusal(oram.drain(&[Leaf(1)])), None);
     assert!(rt; log_is(
-        oram.row_used(0),
-        |k| oram.row_entry(0, k).ok(),
+        &oram,
         &[
             1, 1, 2, 2, 1, 1, 1, 2, 1, 2, 1, 1, 1, 3, 1, 3, //
             1, 1, 2, 2, 1, 1, 1, 3, 1, 3, 1, 1, 1, 3, 1, 3, //

@@ -1,5 +1,5 @@
-use crate::setup::blank_row;
-use rig::answers::{log_is, refusal};
+use crate::setup::{blank_row, log_is};
+use rig::answers::refusal;
 use rig::given::block;
 use std::test::Fail;
 use store::interface::BucketStore;
@@ -20,13 +20,7 @@ fn smallest_number_first(rt: HostRuntime) -> Result<(), Fail> {
     // a flush enters 4, and then a fetch finds 1 free
     row.flush(Leaf(1))?;
     assert!(rt; row.fetch(RecordNumber(0), Leaf(0)).is_err());
-    assert!(rt;
-        log_is(
-            row.store.log_used(),
-            |k| row.store.log_entry(k).ok(),
-            &[1, 3, 1, 3]
-        )
-    );
+    assert!(rt; log_is(&row.store, &[1, 3, 1, 3]));
     Ok(())
 }
 

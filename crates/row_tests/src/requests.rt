@@ -1,7 +1,6 @@
 ghost use Rattle.std.specs.Prelude.{Some, replicate};
 
-use crate::setup::{blank_row, first_place_is};
-use rig::answers::log_is;
+use crate::setup::{blank_row, first_place_is, log_is};
 use rig::given::block;
 use row::change::Change;
 use row::requests::Ask;
@@ -32,8 +31,7 @@ fn one_request_at_depth_one(rt: HostRuntime) -> Result<(), Fail> {
     assert_eq!(rt; row.queue.len(), 0);
     assert!(rt;
         log_is(
-            row.store.log_used(),
-            |k| row.store.log_entry(k).ok(),
+            &row.store,
             &[1, 1, 2, 2, 1, 1, 1, 2, 1, 2, 1, 1, 1, 3, 1, 3],
         )
     );
@@ -59,13 +57,7 @@ fn down_and_out_again_at_depth_two(rt: HostRuntime) -> Result<(), Fail> {
         .fetch(RecordNumber(6), Leaf(3))?
         .ok_or("the block is not found")?;
     assert_eq!(rt; found.leaf.0, 3);
-    assert!(rt;
-        log_is(
-            row.store.log_used(),
-            |k| row.store.log_entry(k).ok(),
-            &DOWN_AND_OUT
-        )
-    );
+    assert!(rt; log_is(&row.store, &DOWN_AND_OUT));
     first_place_is(&rt, &mut row.store, 7, [0, 0, 0]);
     Ok(())
 }
@@ -89,12 +81,6 @@ fn down_and_out_again_by_a_request(rt: HostRuntime) -> Result<(), Fail> {
         .ok_or("the block is not found")?;
     let word = found.words[0];
     assert_eq!(rt; word, 8);
-    assert!(rt;
-        log_is(
-            row.store.log_used(),
-            |k| row.store.log_entry(k).ok(),
-            &DOWN_AND_OUT
-        )
-    );
+    assert!(rt; log_is(&row.store, &DOWN_AND_OUT));
     Ok(())
 }

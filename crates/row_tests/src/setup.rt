@@ -28,3 +28,10 @@ pub fn first_place_is(rt: &impl Abort, store: &mut TableStore, n: u32, expected:
     assert!(rt; store.read(BucketNumber(n), &mut words).is_ok());
     assert_eq!(rt; [words[0], words[1], words[2]], expected);
 }
+
+// Whether the log holds just these numbers, oldest first.
+pub fn log_is(store: &TableStore, expected: &[u32]) -> bool {
+    store.log_used() as usize == expected.len()
+        && (0..store.log_used()).zip(expected).all(|(k, number)| store.log_entry(k)
+            == Ok(BucketNumber(*number)))
+}
