@@ -15,7 +15,7 @@ use Rattle.steps.proofs.Order.{order_kept}
 use Rattle.store.specs.declared.interface.BucketStore.{Ghosts as StoreMeaning}
 use Rattle.posmap.specs.declared.interface.PositionMap.{Ghosts as MapMeaning}
 use Rattle.posmap.specs.Maps.{MapFacts, MapRow, Names, OwnLeaves, divided, row_at}
-use Rattle.front.specs.Fronts.{deeper, fit_up_to, front_rows, front_unfit}
+use Rattle.front.specs.Fronts.{deeper, fit_up_to, front_full, front_rows, front_unfit}
 use Rattle.front.proofs.Kept.{none_unfit}
 use Rattle.level.specs.declared.level.Level.{Level}
 use Rattle.level.specs.Levels.{level_leaves, most_pages, page_words, pages_from}
@@ -62,6 +62,14 @@ fit_length unfit row n e = ap (λ u. length (level_leaves u row n)) e ∙ length
 eight_divided : (n m : ℕ) → m ≡ 8 * n → n ≡ divided m
 eight_divided n m e = omega arith
 
+-- each row has an own leaf for each number that it can be asked
+own_leaves : (unfit : Option ℕ) (row : Row) (below : List ℕ) (rows : List MapRow) (D span : ℕ) (log : List ℕ)
+    → unfit ≡ None → OwnLeaves (length below) rows
+    → OwnLeaves (length (level_leaves unfit row (length below))) (front_rows D below span log rows)
+own_leaves unfit row below rows D span log e h =
+    let n = eight_divided (length below) (length (level_leaves unfit row (length below))) (fit_length unfit row (length below) e) in
+    (n, subst (λ k. OwnLeaves k rows) n h)
+
 -- a full row has more than 31 own leaves
 small_never_full : (D : ℕ) (below : List ℕ) (row : Row) (rows : List MapRow) (span : ℕ) (log : List ℕ) (full : Option ℕ) (q : Bool)
     → q ≡ (length row.queue == capacity) → InOrder D below row
@@ -78,20 +86,28 @@ small_never_full D below row rows span log full true e o h =
 small_never_full D below row rows span log None false e o h = tt
 small_never_full D below row rows span log (Some r) false e o h = h
 
+-- the facts of a row of pages in front of a map of which they hold: whatever its depth, its blocks, its log, and whether it is fit
+pub page_facts : (ordered : Type 0) (D : ℕ) (below : List ℕ) (rows : List MapRow) (unfit full : Option ℕ) (row : Row) (fit : Bool)
+    (span : ℕ) (log : List ℕ) → MapFacts ordered below rows unfit full
+    → MapFacts (ordered × InOrder D below row) (level_leaves (front_unfit fit unfit) row (length below))
+    (front_rows D below span log rows) (front_unfit fit unfit) (front_full row.queue full)
+page_facts ordered D below rows unfit full row fit span log facts =
+    record {
+      unfit_named = unfit_named fit unfit (record { depth = D; own = below; span = span; log = log }) rows facts.unfit_named;
+      full_named = full_named (length row.queue == capacity) full (record { depth = D; own = below; span = span; log = log }) rows facts.full_named;
+      own_leaves = λ e.
+          own_leaves (front_unfit fit unfit) row below rows D span log e (facts.own_leaves (none_unfit fit unfit e).0);
+      small_never_full = λ o.
+          small_never_full D below row rows span log full (length row.queue == capacity) refl o.1
+          (facts.small_never_full o.0);
+    }
+
 -- the facts of a level, all together
 pub level_facts : {S P F : Type 0} (store : StoreMeaning S) (map : MapMeaning P F) (s : Level S P)
     → MapFacts (Ordered store map s) (leaves_of store map s) (rows_of store map s) (unfit_of store map s) (full_of map s)
 level_facts store map s =
-    let facts = map.facts s.front.below in
-    let own : MapRow = record { depth = s.front.row.depth; own = map.leaves s.front.below; span = store.span s.front.row.store; log = store.log s.front.row.store } in
-    let fit = fit_up_to most_pages s.front.row.depth (length (store.buckets s.front.row.store)) (pages_of map s) (length (map.rows s.front.below)) in
-    record {
-      unfit_named = unfit_named fit (map.unfit s.front.below) own (map.rows s.front.below) facts.unfit_named;
-      full_named = full_named (length (queued s.front.row.queue) == capacity) (map.full s.front.below) own (map.rows s.front.below) facts.full_named;
-      own_leaves = λ e.
-          let n = eight_divided (pages_of map s) (length (leaves_of store map s)) (fit_length (unfit_of store map s) (own_row store s) (pages_of map s) e) in
-          (n, subst (λ k. OwnLeaves k (map.rows s.front.below)) n (facts.own_leaves (none_unfit fit (map.unfit s.front.below) e).0));
-      small_never_full = λ o.
-          small_never_full s.front.row.depth (map.leaves s.front.below) (own_row store s) (map.rows s.front.below) (store.span s.front.row.store) (store.log s.front.row.store)
-          (map.full s.front.below) (length (queued s.front.row.queue) == capacity) refl o.1 (facts.small_never_full o.0);
-    }
+    let r = s.front.row in
+    let b = s.front.below in
+    let fit = fit_up_to most_pages r.depth (length (store.buckets r.store)) (pages_of map s) (length (map.rows b)) in
+    page_facts (map.ordered b) r.depth (map.leaves b) (map.rows b) (map.unfit b) (map.full b) (own_row store s) fit
+    (store.span r.store) (store.log r.store) (map.facts b)

@@ -2,25 +2,20 @@
 #![tactic(auto)]
 
 mod depths;
+mod reply;
 mod report;
 
 use anyhow::anyhow;
-use depths::{BadLine, read_depths};
-use std::alloc::AllocError;
+use reply::{Reply, answer};
 
 fn main(rt: HostRuntime) -> anyhow::Result<()> {
     let mut line = String::new(rt.alloc());
     rt.read_line(&mut line)?;
-    match read_depths(rt.alloc(), line.as_str()) {
-        Ok(depths) => {
-            print!(rt; "{depths}")?;
-            Ok(())
-        }
-        Err(BadLine::NoMemory) => Err(AllocError.into()),
-        Err(bad) => {
-            println!(rt; "{bad}")?;
-            Err(anyhow!("no quote"))
-        }
+    let reply = answer(rt.alloc(), line.as_str())?;
+    print!(rt; "{reply}")?;
+    match reply {
+        Reply::Quote(_) => Ok(()),
+        Reply::NoQuote(_) => Err(anyhow!("no quote")),
     }
 }
 

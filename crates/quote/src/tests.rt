@@ -3,11 +3,8 @@ use std::process::Abort;
 use std::test::Fail;
 
 fn says(rt: &(impl Abort + AllocGlobal), line: &str, text: &str) -> Result<(), Fail> {
-    let said = match read_depths(rt.alloc(), line) {
-        Ok(depths) => format!(in rt.alloc(); "{depths}")?,
-        Err(bad) => format!(in rt.alloc(); "{bad}\n")?,
-    };
-    assert_eq!(rt; said.as_str(), text);
+    let reply = answer(rt.alloc(), line)?;
+    assert_eq!(rt; format!(in rt.alloc(); "{reply}")?.as_str(), text);
     Ok(())
 }
 

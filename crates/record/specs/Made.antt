@@ -1,5 +1,5 @@
--- The calibration record that words give: a record laid out and made again, and which words it comes from.
-use Rattle.std.specs.Prelude.{◌≡◌, ℕ, ◌+◌, ◌^◌, ◌<◌, List, take, refl}
+-- The calibration record that words give: which words it comes from, and that it has all their bits.
+use Rattle.std.specs.Prelude.{◌≡◌, ℕ, ◌+◌, ◌^◌, ◌<◌, ◌≤◌, List, [], ◌∷◌, ◌++◌, length, take, slice_index, refl}
 use Rattle.std.proofs.Common.{sym, ap, ◌∙◌, arith}
 use Rattle.record.specs.declared.calibration.CalibrationRecord.{CalibrationRecord}
 use Rattle.record.specs.Calibration.{calibration_words, calibration_of}
@@ -7,7 +7,7 @@ use Rattle.record.specs.Packing.{low_part, high_part, packed}
 use Rattle.record.specs.Words.{words_from}
 use Rattle.record.specs.PackingLemmas.{packed_parts, low_same, low_fits, low_packed, high_packed, high_fits}
 use Rattle.record.specs.Same.{same_calibration}
-use Rattle.record.specs.WordsLemmas.{words_from-take}
+use Rattle.record.specs.WordsLemmas.{words_from_part, words_from-take}
 
 -- a number of two parts, each cut to its width, is what it was
 packed_cut : (k n : ℕ) → n < 2 ^ (k + k) → packed k (low_part k n) (low_part k (high_part k n)) ≡ n
@@ -33,3 +33,17 @@ six_words vs ws e =
     let l = words_from-take 6 6 0 vs (omega arith) in
     let r = words_from-take 6 6 0 ws (omega arith) in
     ap calibration_of (sym l ∙ ap (words_from 6 0) e ∙ r)
+
+-- the record has all bits of the six words, of which the first four are shared or split
+pub six_back : (ws : List ℕ) → 6 ≤ length ws → slice_index ws 0 < 2 ^ 32 → slice_index ws 1 < 2 ^ 32 → slice_index ws 2 < 2 ^ 32
+    → slice_index ws 3 < 2 ^ 32 → calibration_words (calibration_of ws) ≡ take 6 ws ++ (0 ∷ 0 ∷ [])
+six_back ws long low high rates wheel =
+    let l = low_fits 32 (slice_index ws 0) in
+    let a = low_packed 32 _ (low_part 32 (slice_index ws 1)) l ∙ low_same 32 _ low in
+    let b = high_packed 32 _ (low_part 32 (slice_index ws 1)) l ∙ low_same 32 _ high in
+    same_words a b (packed_cut 16 _ rates) (packed_cut 16 _ wheel)
+    ∙ ap (λ (us : List ℕ). us ++ (0 ∷ 0 ∷ [])) (words_from_part 6 0 ws long)
+  where
+    same_words : {a b c d a' b' c' d' e f : ℕ} → a ≡ a' → b ≡ b' → c ≡ c' → d ≡ d'
+        → ◌≡◌ {A = List ℕ} (a ∷ b ∷ c ∷ d ∷ e ∷ f ∷ 0 ∷ 0 ∷ []) (a' ∷ b' ∷ c' ∷ d' ∷ e ∷ f ∷ 0 ∷ 0 ∷ [])
+    same_words p q r s = cc

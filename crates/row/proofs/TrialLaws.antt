@@ -13,7 +13,7 @@ use Rattle.tree.specs.Queues.{queued}
 use Rattle.row.specs.declared.requests.Ask.{Ask}
 use Rattle.row.specs.declared.row.Row.{Row}
 use Rattle.row.specs.Requests.{request_refusal_of}
-use Rattle.row.specs.Trials.{arrival_fits, first_fault, has_room, is_fit, leaf_fits, refusal_of, second_moves, second_refusal_of, tree_buckets, waiting_for}
+use Rattle.row.specs.Trials.{arrival_fits, first_fault, has_room, is_fit, leaf_fits, refusal, second_moves, second_refusal, tree_buckets, waiting_for}
 
 pub none_ok : {T E : Type 0} (r : Result T E) → result_err r ≡ None → is_ok r ≡ true
 none_ok (Ok x) e = refl
@@ -46,11 +46,11 @@ room_passes None waiting l = refl
 room_passes (Some b) waiting l = lt-ltb waiting capacity l
 
 -- what the trial of a second half tells that has passed
-pub record SecondPassed {S : Type 0} (store : StoreMeaning S) (r : Row S) (first second : Leaf) : Type 0 where
-  pub fit : is_fit r.depth (length (store.buckets r.store)) ≡ true
-  pub along_first : is_leaf r.depth first.0 ≡ true
-  pub along_second : is_leaf r.depth second.0 ≡ true
-  pub free : length (store.log r.store) + second_moves r.depth ≤ store.span r.store
+pub record SecondPassed {S : Type 0} (store : StoreMeaning S) (s : S) (D : ℕ) (first second : Leaf) : Type 0 where
+  pub fit : is_fit D (length (store.buckets s)) ≡ true
+  pub along_first : is_leaf D first.0 ≡ true
+  pub along_second : is_leaf D second.0 ≡ true
+  pub free : length (store.log s) + second_moves D ≤ store.span s
 
 -- and that of a request
 pub record RequestPassed {S : Type 0} (store : StoreMeaning S) (r : Row S) (new first second : Leaf) (room : Bool) : Type 0 where
@@ -61,40 +61,43 @@ pub record RequestPassed {S : Type 0} (store : StoreMeaning S) (r : Row S) (new 
   pub free : length (store.log r.store) + request_moves r.depth ≤ store.span r.store
   pub roomy : room ≡ true
 
-module _ {S : Type 0} (store : StoreMeaning S) (r : Row S) where
-  -- a step of a fit row along a leaf of its tree is not refused where the log has room
-  pub step_passes : (leaf : Leaf) (entries : ℕ) → is_fit r.depth (length (store.buckets r.store)) ≡ true
-      → is_leaf r.depth leaf.0 ≡ true → length (store.log r.store) + entries ≤ store.span r.store
-      → refusal_of store r (Some leaf) entries None ≡ None
+module _ {S : Type 0} (store : StoreMeaning S) (s : S) (D : ℕ) where
+  -- a step along a leaf of the tree is not refused where the store has buckets enough and the log has room
+  pub step_passes : (leaf : Leaf) (entries : ℕ) → is_fit D (length (store.buckets s)) ≡ true
+      → is_leaf D leaf.0 ≡ true → length (store.log s) + entries ≤ store.span s
+      → refusal D (store.buckets s) (Some leaf) entries (store.span s) (store.log s) None ≡ None
   step_passes leaf entries fit l free = all_pass fit l (le-leb _ _ free) refl
 
   -- a step that is not refused finds a root
-  pub root_passed : (leaf : Option Leaf) (entries : ℕ) (waiting : Option ℕ) → None ≡ refusal_of store r leaf entries waiting
-      → 1 ≤ length (store.buckets r.store)
+  pub root_passed : (leaf : Option Leaf) (entries : ℕ) (waiting : Option ℕ)
+      → None ≡ refusal D (store.buckets s) leaf entries (store.span s) (store.log s) waiting
+      → 1 ≤ length (store.buckets s)
   root_passed leaf entries waiting e =
-      root_there r.depth (length (store.buckets r.store))
-      (all_passed (is_fit r.depth (length (store.buckets r.store))) (leaf_fits r.depth leaf)
-      (leb (length (store.log r.store) + entries) (store.span r.store)) (has_room waiting) e).0
+      root_there D (length (store.buckets s))
+      (all_passed (is_fit D (length (store.buckets s))) (leaf_fits D leaf)
+      (leb (length (store.log s) + entries) (store.span s)) (has_room waiting) e).0
 
-  pub second_passes : (arrives : Option Block) (first second : Leaf) → is_fit r.depth (length (store.buckets r.store)) ≡ true
-      → arrival_fits r.depth arrives ≡ true → is_leaf r.depth first.0 ≡ true → is_leaf r.depth second.0 ≡ true
-      → length (store.log r.store) + second_moves r.depth ≤ store.span r.store → length (queued r.queue) < capacity
-      → second_refusal_of store r arrives first second ≡ None
-  second_passes arrives first second fit a f s free room =
-      all_pass fit (and_from (arrival_fits r.depth arrives) _ a (and_from (is_leaf r.depth first.0) (is_leaf r.depth second.0) f s))
-      (le-leb _ _ free) (room_passes arrives (length (queued r.queue)) room)
+  pub second_passes : (waiting : ℕ) (arrives : Option Block) (first second : Leaf) → is_fit D (length (store.buckets s)) ≡ true
+      → arrival_fits D arrives ≡ true → is_leaf D first.0 ≡ true → is_leaf D second.0 ≡ true
+      → length (store.log s) + second_moves D ≤ store.span s → waiting < capacity
+      → second_refusal D (length (store.buckets s)) arrives first second (store.span s) (length (store.log s)) waiting ≡ None
+  second_passes waiting arrives first second fit a f g free room =
+      all_pass fit (and_from (arrival_fits D arrives) _ a (and_from (is_leaf D first.0) (is_leaf D second.0) f g))
+      (le-leb _ _ free) (room_passes arrives waiting room)
 
-  pub second_passed : (arrives : Option Block) (first second : Leaf) → None ≡ second_refusal_of store r arrives first second
-      → SecondPassed store r first second
-  second_passed arrives first second e =
-      let p = all_passed (is_fit r.depth (length (store.buckets r.store)))
-      (arrival_fits r.depth arrives && (is_leaf r.depth first.0 && is_leaf r.depth second.0))
-      (leb (length (store.log r.store) + second_moves r.depth) (store.span r.store))
-      (has_room (waiting_for arrives (length (queued r.queue)))) e in
-      let l = and_parts (arrival_fits r.depth arrives) _ p.1 in
-      let m = and_parts (is_leaf r.depth first.0) (is_leaf r.depth second.0) l.1 in
+  pub second_passed : (waiting : ℕ) (arrives : Option Block) (first second : Leaf)
+      → None ≡ second_refusal D (length (store.buckets s)) arrives first second (store.span s) (length (store.log s)) waiting
+      → SecondPassed store s D first second
+  second_passed waiting arrives first second e =
+      let p = all_passed (is_fit D (length (store.buckets s)))
+      (arrival_fits D arrives && (is_leaf D first.0 && is_leaf D second.0))
+      (leb (length (store.log s) + second_moves D) (store.span s))
+      (has_room (waiting_for arrives waiting)) e in
+      let l = and_parts (arrival_fits D arrives) _ p.1 in
+      let m = and_parts (is_leaf D first.0) (is_leaf D second.0) l.1 in
       record { fit = p.0; along_first = m.0; along_second = m.1; free = leb-true _ _ p.2 }
 
+module _ {S : Type 0} (store : StoreMeaning S) (r : Row S) where
   pub request_passed : (new first second : Leaf) (room : Bool)
       → None ≡ first_fault (is_fit r.depth (length (store.buckets r.store))) (are_leaves r.depth (new ∷ first ∷ second ∷ []))
       (leb (length (store.log r.store) + request_moves r.depth) (store.span r.store)) room

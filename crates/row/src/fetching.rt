@@ -1,7 +1,7 @@
 // Fetch: the block of a number leaves the path of a leaf and the queue.
 ghost use Rattle.std.specs.Prelude.{◌≡◌, suc, ◌+◌, ◌≤◌, true, [], ◌∷◌, ◌++◌, length, is_ok, is_err, IfOk, if◌then◌else◌, Some, None, OnOk};
-ghost use Rattle.row.specs.Rows.{Moved, Frame, decoded, log_in, row_in};
-ghost use Rattle.row.specs.Trials.{fetch_moves, refusal_of, tree_buckets};
+ghost use Rattle.row.specs.Rows.{Moved, Frame, decoded, decoded_row, log_in, row_in};
+ghost use Rattle.row.specs.Trials.{fetch_moves, refusal, refusal_of, tree_buckets};
 ghost use Rattle.std.specs.Result.{result_err};
 ghost use Rattle.steps.specs.Steps.{bucket, cleared_to, fetched, found, found_to, with_bucket};
 ghost use Rattle.tree.specs.Entries.{fetch_entries, fetch_to};
@@ -9,11 +9,21 @@ ghost use Rattle.tree.specs.Places.{taken, without};
 
 use crate::buckets::{path_bucket, read_bucket, write_bucket};
 use crate::fault::RowFault;
+use crate::moves::fetch_moves;
 use crate::row::Row;
+use crate::trial::along;
 use store::interface::BucketStore;
 use tree::block::Block;
 use tree::numbers::{BucketNumber, Leaf, RecordNumber};
 use tree::path::Path;
+use tree::queue::Queue;
+
+// What a fetch answers: the queue as it is now, and the block, if there was one.
+#[derive(Clone, Copy)]
+pub struct Fetched {
+    pub queue: Queue,
+    pub block: Option<Block>,
+}
 
 // Takes the block of a number out of one bucket, which is read and written whether or not the block is there.
 fn fetch_bucket<S: BucketStore>(
@@ -51,6 +61,32 @@ fn fetch_path<S: BucketStore>(store: &mut S, number: RecordNumber, along: Path) 
     found
 }
 
+// Every bucket of the path is read and then written, wherever the block is, and then the queue is searched. For whoever has a store
+// by reference; a row does the same.
+pub fn fetch<S: BucketStore>(
+    store: &mut S,
+    queue: Queue,
+    depth: u32,
+    number: RecordNumber,
+    leaf: Leaf,
+) -> Result<Fetched, RowFault>
+    ensures answer { result_err result ≡ refusal depth (S.BucketStore.buckets store.old) (Some leaf) (fetch_moves depth) (S.BucketStore.span store.old) (S.BucketStore.log store.old) None }
+    ensures row { IfOk result (λ f. decoded_row (S.BucketStore.buckets store.new) f.queue ≡ fetched depth number.0 leaf.0 (decoded_row (S.BucketStore.buckets store.old) queue)) }
+    ensures block { IfOk result (λ f. f.block ≡ found depth number.0 leaf.0 (decoded_row (S.BucketStore.buckets store.old) queue)) }
+    ensures log { S.BucketStore.log store.new ≡ (if is_ok result then S.BucketStore.log store.old ++ fetch_entries depth leaf.0 else S.BucketStore.log store.old) }
+    ensures span { S.BucketStore.span store.new ≡ S.BucketStore.span store.old }
+    ensures count { length (S.BucketStore.buckets store.new) ≡ length (S.BucketStore.buckets store.old) }
+    ensures refused { is_err result ≡ true → store.new ≡ store.old }
+{
+    let along = along(store, depth, leaf, fetch_moves(depth))?;
+    let block = fetch_path(store, number, along);
+    let (queue, waiting) = queue.take_out(number);
+    Ok(Fetched {
+        queue,
+        block: block.or(waiting),
+    })
+}
+
 impl<S: BucketStore> Row<S> {
     // Every bucket of the path is read and then written, wherever the block is, and then the queue is searched. What is found is
     // answered.
@@ -62,10 +98,8 @@ impl<S: BucketStore> Row<S> {
         ensures frame { Frame S.BucketStore self.old self.new }
         ensures refused { is_err result ≡ true → self.new ≡ self.old }
     {
-        let along = self.along(leaf, self.fetch_moves())?;
-        let block = fetch_path(&mut self.store, number, along);
-        let (queue, waiting) = self.queue.take_out(number);
-        self.queue = queue;
-        Ok(block.or(waiting))
+        let got = fetch(&mut self.store, self.queue, self.depth, number, leaf)?;
+        self.queue = got.queue;
+        Ok(got.block)
     }
 }

@@ -1,7 +1,7 @@
 // Flush: blocks sink along the path of a leaf. Dequeue: a put-back, and then a flush.
-ghost use Rattle.std.specs.Prelude.{◌≡◌, ◌+◌, ◌<◌, ◌≤◌, true, [], ◌∷◌, ◌++◌, length, is_ok, is_err, if◌then◌else◌, Some, None, OnOk};
-ghost use Rattle.row.specs.Rows.{Moved, Frame, decoded, log_in, row_in};
-ghost use Rattle.row.specs.Trials.{dequeue_moves, flush_moves, refusal_of, tree_buckets};
+ghost use Rattle.std.specs.Prelude.{◌≡◌, ◌+◌, ◌<◌, ◌≤◌, true, [], ◌∷◌, ◌++◌, length, is_ok, is_err, IfOk, if◌then◌else◌, Some, None, OnOk};
+ghost use Rattle.row.specs.Rows.{Moved, Frame, decoded, decoded_row, log_in, row_in};
+ghost use Rattle.row.specs.Trials.{dequeue_moves, flush_moves, refusal, refusal_of, tree_buckets};
 ghost use Rattle.std.specs.Result.{result_err};
 ghost use Rattle.steps.specs.Steps.{bucket, dequeued, flushed, flushed_to, with_bucket};
 ghost use Rattle.tree.specs.Choice.{moved_child, moved_parent};
@@ -10,11 +10,15 @@ ghost use Rattle.tree.specs.Paths.{path};
 
 use crate::buckets::{path_bucket, read_bucket, write_bucket};
 use crate::fault::RowFault;
+use crate::moves::{dequeue_moves, flush_moves};
+use crate::queueing::put_back_root;
 use crate::row::Row;
+use crate::trial::along;
 use store::interface::BucketStore;
 use tree::bucket::Bucket;
 use tree::numbers::Leaf;
 use tree::path::Path;
+use tree::queue::Queue;
 
 // The bucket at a layer of the path is in hand. The one below it is read, at most one block moves down, and the one in hand is
 // written. The one below is handed on: a block that came down may move on.
@@ -46,6 +50,41 @@ fn flush_path<S: BucketStore>(store: &mut S, along: Path)
     write_bucket(store, path_bucket(along, along.depth()), &hand);
 }
 
+// At each layer of the path at most one block moves one bucket down, root first: a moved block may move on. For whoever has a store
+// by reference, as the next; a row does the same.
+pub fn flush<S: BucketStore>(store: &mut S, depth: u32, leaf: Leaf) -> Result<(), RowFault>
+    ensures answer { result_err result ≡ refusal depth (S.BucketStore.buckets store.old) (Some leaf) (flush_moves depth) (S.BucketStore.span store.old) (S.BucketStore.log store.old) None }
+    ensures buckets { OnOk result (decoded (S.BucketStore.buckets store.new) ≡ flushed_to depth leaf.0 (decoded (S.BucketStore.buckets store.old)) depth) }
+    ensures log { S.BucketStore.log store.new ≡ (if is_ok result then S.BucketStore.log store.old ++ flush_entries depth leaf.0 else S.BucketStore.log store.old) }
+    ensures span { S.BucketStore.span store.new ≡ S.BucketStore.span store.old }
+    ensures count { length (S.BucketStore.buckets store.new) ≡ length (S.BucketStore.buckets store.old) }
+    ensures refused { is_err result ≡ true → store.new ≡ store.old }
+{
+    let along = along(store, depth, leaf, flush_moves(depth))?;
+    flush_path(store, along);
+    Ok(())
+}
+
+// The queue's first block goes back to the root, and then blocks sink along the path of the leaf.
+pub fn dequeue<S: BucketStore>(
+    store: &mut S,
+    queue: Queue,
+    depth: u32,
+    leaf: Leaf,
+) -> Result<Queue, RowFault>
+    ensures answer { result_err result ≡ refusal depth (S.BucketStore.buckets store.old) (Some leaf) (dequeue_moves depth) (S.BucketStore.span store.old) (S.BucketStore.log store.old) None }
+    ensures row { IfOk result (λ q. decoded_row (S.BucketStore.buckets store.new) q ≡ dequeued depth leaf.0 (decoded_row (S.BucketStore.buckets store.old) queue)) }
+    ensures log { S.BucketStore.log store.new ≡ (if is_ok result then S.BucketStore.log store.old ++ dequeue_entries depth leaf.0 else S.BucketStore.log store.old) }
+    ensures span { S.BucketStore.span store.new ≡ S.BucketStore.span store.old }
+    ensures count { length (S.BucketStore.buckets store.new) ≡ length (S.BucketStore.buckets store.old) }
+    ensures refused { is_err result ≡ true → store.new ≡ store.old }
+{
+    let along = along(store, depth, leaf, dequeue_moves(depth))?;
+    let left = put_back_root(store, queue);
+    flush_path(store, along);
+    Ok(left)
+}
+
 impl<S: BucketStore> Row<S> {
     // At each layer of the path at most one block moves one bucket down, root first: a moved block may move on. The queue stays.
     pub fn flush(&mut self, leaf: Leaf) -> Result<(), RowFault>
@@ -56,9 +95,7 @@ impl<S: BucketStore> Row<S> {
         ensures frame { Frame S.BucketStore self.old self.new }
         ensures refused { is_err result ≡ true → self.new ≡ self.old }
     {
-        let along = self.along(leaf, self.flush_moves())?;
-        flush_path(&mut self.store, along);
-        Ok(())
+        flush(&mut self.store, self.depth, leaf)
     }
 
     // The queue's first block goes back to the root, and then blocks sink along the path of the leaf.
@@ -69,9 +106,7 @@ impl<S: BucketStore> Row<S> {
         ensures frame { Frame S.BucketStore self.old self.new }
         ensures refused { is_err result ≡ true → self.new ≡ self.old }
     {
-        let along = self.along(leaf, self.dequeue_moves())?;
-        self.put_back_root();
-        flush_path(&mut self.store, along);
+        self.queue = dequeue(&mut self.store, self.queue, self.depth, leaf)?;
         Ok(())
     }
 }

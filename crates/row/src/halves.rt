@@ -1,63 +1,105 @@
 // The halves of a request. The first is a fetch along the leaf that a map shows.
-ghost use Rattle.row.specs.Rows.{Frame, log_in, row_in};
-ghost use Rattle.row.specs.Trials.{arrival_fits, has_room, in_range, is_fit, second_refusal_of, waiting_for};
-ghost use Rattle.std.specs.Prelude.{◌≡◌, true, [], ◌∷◌, ◌++◌, length, is_ok, is_err, if◌then◌else◌, OnOk};
+ghost use Rattle.row.specs.Rows.{Frame, decoded_row, log_in, row_in};
+ghost use Rattle.row.specs.Trials.{arrival_fits, has_room, in_range, is_fit, second_refusal, second_refusal_of, waiting_for};
+ghost use Rattle.std.specs.Prelude.{◌≡◌, true, [], ◌∷◌, ◌++◌, length, is_ok, is_err, IfOk, if◌then◌else◌, OnOk};
 ghost use Rattle.std.specs.Result.{result_err};
 ghost use Rattle.steps.specs.Steps.{arriving, second_half};
 ghost use Rattle.tree.specs.Entries.{dequeues_entries};
 ghost use Rattle.tree.specs.Queues.{queued};
 
 use crate::fault::RowFault;
+use crate::flushing::dequeue;
+use crate::moves::second_moves;
+use crate::queueing::arrive;
 use crate::row::Row;
+use crate::trial::trial;
 use store::interface::BucketStore;
 use tree::block::Block;
 use tree::numbers::Leaf;
 use tree::paths::is_depth;
+use tree::queue::Queue;
+
+// A leaf reduced to the row's range. Of a map in order this changes nothing: of any other it keeps the work from being refused
+// half way.
+pub fn in_range(leaf: Leaf, depth: u32) -> Leaf
+    ensures { result.0 ≡ in_range depth leaf.0 }
+{
+    if !is_depth(depth) {
+        return Leaf(0);
+    }
+    Leaf(leaf.0 % (1u32 << depth))
+}
+
+// How a second half is refused. A full queue refuses only what arrives.
+fn second_trial<S: BucketStore>(
+    store: &S,
+    queue: &Queue,
+    depth: u32,
+    arrives: Option<Block>,
+    first: Leaf,
+    second: Leaf,
+) -> Result<(), RowFault>
+    ensures { result_err result ≡ second_refusal depth (length (S.BucketStore.buckets store.now)) arrives first second (S.BucketStore.span store.now) (length (S.BucketStore.log store.now)) (length (queued queue.now)) }
+{
+    let entries = second_moves(depth);
+    match arrives {
+        Some(block) => trial(
+            store,
+            depth,
+            &[block.leaf, first, second],
+            entries,
+            !queue.is_full(),
+        ),
+        None => trial(store, depth, &[first, second], entries, true),
+    }
+}
+
+// The queue with what arrives at its end, if something does.
+fn joined<S: BucketStore>(store: &S, queue: Queue, depth: u32, arrives: Option<Block>) -> Queue
+    requires fit { is_fit depth (length (S.BucketStore.buckets store.now)) ≡ true }
+    requires leaf { arrival_fits depth arrives ≡ true }
+    requires room { has_room (waiting_for arrives (length (queued queue))) ≡ true }
+    ensures { decoded_row (S.BucketStore.buckets store.now) result ≡ arriving arrives (decoded_row (S.BucketStore.buckets store.now) queue) }
+{
+    match arrives {
+        Some(block) => arrive(store, queue, depth, block).unwrap(),
+        None => queue,
+    }
+}
+
+// A block arrives, or none, and a dequeue follows along each flush leaf. Both dequeues are made whether or not a block arrives: the
+// log must not tell. For whoever has a store by reference; a row does the same.
+pub fn second_half<S: BucketStore>(
+    store: &mut S,
+    queue: Queue,
+    depth: u32,
+    arrives: Option<Block>,
+    first: Leaf,
+    second: Leaf,
+) -> Result<Queue, RowFault>
+    ensures answer { result_err result ≡ second_refusal depth (length (S.BucketStore.buckets store.old)) arrives first second (S.BucketStore.span store.old) (length (S.BucketStore.log store.old)) (length (queued queue)) }
+    ensures row { IfOk result (λ q. decoded_row (S.BucketStore.buckets store.new) q ≡ second_half depth arrives (first.0 ∷ second.0 ∷ []) (decoded_row (S.BucketStore.buckets store.old) queue)) }
+    ensures log { S.BucketStore.log store.new ≡ (if is_ok result then S.BucketStore.log store.old ++ dequeues_entries depth (first.0 ∷ second.0 ∷ []) else S.BucketStore.log store.old) }
+    ensures span { S.BucketStore.span store.new ≡ S.BucketStore.span store.old }
+    ensures count { length (S.BucketStore.buckets store.new) ≡ length (S.BucketStore.buckets store.old) }
+    ensures refused { is_err result ≡ true → store.new ≡ store.old }
+{
+    second_trial(store, &queue, depth, arrives, first, second)?;
+    let longer = joined(store, queue, depth, arrives);
+    let once = dequeue(store, longer, depth, first).unwrap();
+    let twice = dequeue(store, once, depth, second).unwrap();
+    Ok(twice)
+}
 
 impl<S: BucketStore> Row<S> {
-    // A leaf reduced to the row's range. Of a map in order this changes nothing: of any other it keeps the work from being
-    // refused half way.
+    // A leaf reduced to the row's range.
     pub fn in_range(&self, leaf: Leaf) -> Leaf
         ensures { result.0 ≡ in_range self.now.depth leaf.0 }
     {
-        if !is_depth(self.depth) {
-            return Leaf(0);
-        }
-        Leaf(leaf.0 % (1u32 << self.depth))
+        in_range(leaf, self.depth)
     }
 
-    // How a second half is refused. A full queue refuses only what arrives.
-    fn second_trial(
-        &self,
-        arrives: Option<Block>,
-        first: Leaf,
-        second: Leaf,
-    ) -> Result<(), RowFault>
-        ensures { result_err result ≡ second_refusal_of S.BucketStore self.now arrives first second }
-    {
-        let entries = self.second_moves();
-        match arrives {
-            Some(block) => self.trial(&[block.leaf, first, second], entries, !self.queue.is_full()),
-            None => self.trial(&[first, second], entries, true),
-        }
-    }
-
-    // What arrives, if something does, comes to the end of the queue.
-    fn join(&mut self, arrives: Option<Block>)
-        requires fit { is_fit self.old.depth (length (S.BucketStore.buckets self.old.store)) ≡ true }
-        requires leaf { arrival_fits self.old.depth arrives ≡ true }
-        requires room { has_room (waiting_for arrives (length (queued self.old.queue))) ≡ true }
-        ensures row { row_in S.BucketStore self.new ≡ arriving arrives (row_in S.BucketStore self.old) }
-        ensures store { self.new.store ≡ self.old.store }
-        ensures depth { self.new.depth ≡ self.old.depth }
-    {
-        if let Some(block) = arrives {
-            self.arrive(block).unwrap();
-        }
-    }
-
-    // A block arrives, or none, and a dequeue follows along each flush leaf. Both dequeues are made whether or not a block
-    // arrives: the log must not tell.
+    // A block arrives, or none, and a dequeue follows along each flush leaf.
     pub fn second_half(
         &mut self,
         arrives: Option<Block>,
@@ -70,10 +112,14 @@ impl<S: BucketStore> Row<S> {
         ensures frame { Frame S.BucketStore self.old self.new }
         ensures refused { is_err result ≡ true → self.new ≡ self.old }
     {
-        self.second_trial(arrives, first, second)?;
-        self.join(arrives);
-        self.dequeue(first).unwrap();
-        self.dequeue(second).unwrap();
+        self.queue = second_half(
+            &mut self.store,
+            self.queue,
+            self.depth,
+            arrives,
+            first,
+            second,
+        )?;
         Ok(())
     }
 }

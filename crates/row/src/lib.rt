@@ -4,11 +4,11 @@
 mod buckets;
 pub mod change;
 pub mod fault;
-mod fetching;
-mod flushing;
-mod halves;
+pub mod fetching;
+pub mod flushing;
+pub mod halves;
 pub mod moves;
-mod queueing;
+pub mod queueing;
 pub mod requests;
 pub mod row;
 pub mod trial;

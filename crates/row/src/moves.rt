@@ -6,38 +6,75 @@ ghost use Rattle.tree.specs.Entries.{request_moves};
 use crate::row::Row;
 use store::interface::BucketStore;
 
+// Each bucket of the path is read and written.
+pub fn fetch_moves(depth: u32) -> u64
+    ensures { result ≡ fetch_moves depth }
+{
+    2 * (u64::from(depth) + 1)
+}
+
+pub fn flush_moves(depth: u32) -> u64
+    ensures { result ≡ flush_moves depth }
+{
+    2 * u64::from(depth) + 2
+}
+
+// A drain is one dequeue.
+pub fn dequeue_moves(depth: u32) -> u64
+    ensures { result ≡ dequeue_moves depth }
+{
+    flush_moves(depth) + 2
+}
+
+// The second half of a request dequeues twice.
+pub fn second_moves(depth: u32) -> u64
+    ensures { result ≡ second_moves depth }
+{
+    2 * dequeue_moves(depth)
+}
+
+pub fn request_moves(depth: u32) -> u64
+    ensures { result ≡ request_moves depth }
+{
+    fetch_moves(depth) + second_moves(depth)
+}
+
+// Whether the log has so many free entries.
+pub fn has_free<S: BucketStore>(store: &S, entries: u64) -> bool
+    ensures { result ≡ nat_le (length (S.BucketStore.log store.now) + entries) (S.BucketStore.span store.now) }
+{
+    entries <= u64::from(store.log_span() - store.log_used())
+}
+
 impl<S> Row<S> {
-    // Each bucket of the path is read and written.
     pub fn fetch_moves(&self) -> u64
         ensures { result ≡ fetch_moves self.now.depth }
     {
-        2 * (u64::from(self.depth) + 1)
+        fetch_moves(self.depth)
     }
 
     pub fn flush_moves(&self) -> u64
         ensures { result ≡ flush_moves self.now.depth }
     {
-        2 * u64::from(self.depth) + 2
+        flush_moves(self.depth)
     }
 
-    // A drain is one dequeue.
     pub fn dequeue_moves(&self) -> u64
         ensures { result ≡ dequeue_moves self.now.depth }
     {
-        self.flush_moves() + 2
+        dequeue_moves(self.depth)
     }
 
-    // The second half of a request dequeues twice.
     pub fn second_moves(&self) -> u64
         ensures { result ≡ second_moves self.now.depth }
     {
-        2 * self.dequeue_moves()
+        second_moves(self.depth)
     }
 
     pub fn request_moves(&self) -> u64
         ensures { result ≡ request_moves self.now.depth }
     {
-        self.fetch_moves() + self.second_moves()
+        request_moves(self.depth)
     }
 }
 
@@ -46,6 +83,6 @@ impl<S: BucketStore> Row<S> {
     pub fn has_free(&self, entries: u64) -> bool
         ensures { result ≡ nat_le (length (S.BucketStore.log self.now.store) + entries) (S.BucketStore.span self.now.store) }
     {
-        entries <= u64::from(self.store.log_span() - self.store.log_used())
+        has_free(&self.store, entries)
     }
 }

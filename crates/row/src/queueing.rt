@@ -1,7 +1,7 @@
 // How a block comes to the queue, and how the first one goes back to the root.
-ghost use Rattle.std.specs.Prelude.{◌≡◌, ◌+◌, ◌≤◌, true, [], ◌∷◌, ◌++◌, length, is_ok, is_err, if◌then◌else◌, Some, None, OnOk};
-ghost use Rattle.row.specs.Rows.{Frame, log_in, row_in};
-ghost use Rattle.row.specs.Trials.{put_back_moves, refusal_of};
+ghost use Rattle.std.specs.Prelude.{◌≡◌, ◌+◌, ◌≤◌, true, [], ◌∷◌, ◌++◌, length, is_ok, is_err, IfOk, if◌then◌else◌, Some, None, OnOk};
+ghost use Rattle.row.specs.Rows.{Frame, Moved, decoded_row, log_in, row_in};
+ghost use Rattle.row.specs.Trials.{put_back_moves, refusal, refusal_of};
 ghost use Rattle.std.specs.Result.{result_err};
 ghost use Rattle.steps.specs.Steps.{arriving, put_back, put_back_from};
 ghost use Rattle.tree.specs.Entries.{put_back_entries};
@@ -10,6 +10,7 @@ ghost use Rattle.tree.specs.Queues.{queued};
 use crate::buckets::{read_bucket, write_bucket};
 use crate::fault::RowFault;
 use crate::row::Row;
+use crate::trial::trial;
 use store::interface::BucketStore;
 use tree::block::Block;
 use tree::bucket::Bucket;
@@ -30,6 +31,50 @@ fn put_first(root: &mut Bucket, queue: Queue) -> Queue
     }
 }
 
+// A block comes to the end of the queue. It moves nothing in the store, which is asked only whether there is such a row. A block whose
+// number waits already leaves the queue as it is. For whoever has a store by reference, as the other steps here; a row does the same.
+pub fn arrive<S: BucketStore>(
+    store: &S,
+    queue: Queue,
+    depth: u32,
+    block: Block,
+) -> Result<Queue, RowFault>
+    ensures answer { result_err result ≡ refusal depth (S.BucketStore.buckets store.now) (Some block.leaf) 0 (S.BucketStore.span store.now) (S.BucketStore.log store.now) (Some (length (queued queue))) }
+    ensures row { IfOk result (λ q. decoded_row (S.BucketStore.buckets store.now) q ≡ arriving (Some block) (decoded_row (S.BucketStore.buckets store.now) queue)) }
+{
+    trial(store, depth, &[block.leaf], 0, !queue.is_full())?;
+    match queue.arrive(block) {
+        Ok(longer) => Ok(longer),
+        Err(_) => Ok(queue),
+    }
+}
+
+// The root is read and written also where nothing changes: the log must not tell whether a block waited or found a place.
+pub(crate) fn put_back_root<S: BucketStore>(store: &mut S, queue: Queue) -> Queue
+    requires some { 1 ≤ length (S.BucketStore.buckets store.old) }
+    requires free { length (S.BucketStore.log store.old) + put_back_moves ≤ S.BucketStore.span store.old }
+    ensures row { decoded_row (S.BucketStore.buckets store.new) result ≡ put_back (decoded_row (S.BucketStore.buckets store.old) queue) }
+    ensures moves { Moved S.BucketStore store.old store.new put_back_entries }
+{
+    let mut root = read_bucket(store, ROOT);
+    let left = put_first(&mut root, queue);
+    write_bucket(store, ROOT, &root);
+    left
+}
+
+// The queue's first block goes back to the root, if that has an empty place; otherwise it stays first.
+pub fn put_back<S: BucketStore>(store: &mut S, queue: Queue, depth: u32) -> Result<Queue, RowFault>
+    ensures answer { result_err result ≡ refusal depth (S.BucketStore.buckets store.old) None put_back_moves (S.BucketStore.span store.old) (S.BucketStore.log store.old) None }
+    ensures row { IfOk result (λ q. decoded_row (S.BucketStore.buckets store.new) q ≡ put_back (decoded_row (S.BucketStore.buckets store.old) queue)) }
+    ensures log { S.BucketStore.log store.new ≡ (if is_ok result then S.BucketStore.log store.old ++ put_back_entries else S.BucketStore.log store.old) }
+    ensures span { S.BucketStore.span store.new ≡ S.BucketStore.span store.old }
+    ensures count { length (S.BucketStore.buckets store.new) ≡ length (S.BucketStore.buckets store.old) }
+    ensures refused { is_err result ≡ true → store.new ≡ store.old }
+{
+    trial(store, depth, &[], 2, true)?;
+    Ok(put_back_root(store, queue))
+}
+
 impl<S: BucketStore> Row<S> {
     // A block comes to the end of the queue. It moves nothing in the store, which is asked only whether there is such a row. A
     // block whose number waits already leaves the queue as it is.
@@ -40,24 +85,8 @@ impl<S: BucketStore> Row<S> {
         ensures depth { self.new.depth ≡ self.old.depth }
         ensures refused { is_err result ≡ true → self.new ≡ self.old }
     {
-        self.trial(&[block.leaf], 0, !self.queue.is_full())?;
-        if let Ok(longer) = self.queue.arrive(block) {
-            self.queue = longer;
-        }
+        self.queue = arrive(&self.store, self.queue, self.depth, block)?;
         Ok(())
-    }
-
-    // The root is read and written also where nothing changes: the log must not tell whether a block waited or found a place.
-    pub(crate) fn put_back_root(&mut self)
-        requires some { 1 ≤ length (S.BucketStore.buckets self.old.store) }
-        requires free { length (S.BucketStore.log self.old.store) + put_back_moves ≤ S.BucketStore.span self.old.store }
-        ensures row { row_in S.BucketStore self.new ≡ put_back (row_in S.BucketStore self.old) }
-        ensures enters { log_in S.BucketStore self.new ≡ log_in S.BucketStore self.old ++ put_back_entries }
-        ensures frame { Frame S.BucketStore self.old self.new }
-    {
-        let mut root = read_bucket(&mut self.store, ROOT);
-        self.queue = put_first(&mut root, self.queue);
-        write_bucket(&mut self.store, ROOT, &root);
     }
 
     // The queue's first block goes back to the root, if that has an empty place; otherwise it stays first.
@@ -68,8 +97,7 @@ impl<S: BucketStore> Row<S> {
         ensures frame { Frame S.BucketStore self.old self.new }
         ensures refused { is_err result ≡ true → self.new ≡ self.old }
     {
-        self.trial(&[], 2, true)?;
-        self.put_back_root();
+        self.queue = put_back(&mut self.store, self.queue, self.depth)?;
         Ok(())
     }
 }

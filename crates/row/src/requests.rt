@@ -8,6 +8,7 @@ ghost use Rattle.tree.specs.Entries.{request_entries};
 use crate::change::Change;
 use crate::fault::RowFault;
 use crate::row::Row;
+use crate::trial::trial;
 use store::interface::BucketStore;
 use tree::block::{BLOCK_WORDS, Block};
 use tree::numbers::{Leaf, RecordNumber};
@@ -57,7 +58,9 @@ impl<S: BucketStore> Row<S> {
         ensures refused { is_err result ≡ true → self.new ≡ self.old }
     {
         let entries = self.request_moves();
-        self.trial(
+        trial(
+            &self.store,
+            self.depth,
             &[ask.new, ask.first, ask.second],
             entries,
             !self.queue.is_full(),

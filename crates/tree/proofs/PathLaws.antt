@@ -49,6 +49,10 @@ path_rises D m d e h k =
     let less : path D m e / 2 ^ (e - d) < path D m e = div-lt_self (path_positive D m e) (omega arith) in
     omega (arith, path_up D m e d (omega arith) k)
 
+-- where two paths agree on a layer, they agree on each above it
+pub path_agree_up : (D m n d e : ℕ) → e ≤ d → d ≤ D → path D m d ≡ path D n d → path D m e ≡ path D n e
+path_agree_up D m n d e h k s = path_up D m d e h k ∙ ap (λ x. x / 2 ^ (d - e)) s ∙ sym (path_up D n d e h k)
+
 -- a number is twice its half, or one more
 halved : (n v : ℕ) → v ≡ n / 2 → (n ≡ 2 * v) ⊎ (n ≡ 2 * v + 1)
 halved n v e = elim (cases_lt (2 * v) n) [ inl l ↦ inr (omega arith) | inr l ↦ inl (omega arith) ]

@@ -77,10 +77,10 @@ impl Queue {
     pub fn find(&self, number: RecordNumber) -> Option<Block>
         ensures { result ≡ block_of number.0 (queued self.now) }
     {
-        self.waiting()
-            .iter()
-            .copied()
-            .find(|block| block.number == number)
+        match self.position(number) {
+            Some(i) => Some(self.blocks[i]),
+            None => None,
+        }
     }
 
     // The block of a number leaves, and the others stay in order.

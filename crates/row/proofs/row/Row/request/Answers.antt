@@ -32,4 +32,6 @@ unwrap-requires g c =
     let enough : length (g.S.BucketStore.log got.store) + second_moves got.depth ≤ g.S.BucketStore.span got.store = omega arith in
     let roomy : length (queued got.queue) < capacity = omega arith in
     none_ok c.second_half.result
-    (c.second_half.ensures.answer ∙ search (second_passes g.S.BucketStore got))
+    (c.second_half.ensures.answer
+    ∙ second_passes g.S.BucketStore got.store got.depth (length (queued got.queue)) c.arrival-arrives.result ask.first ask.second fit fits
+    first second enough roomy)
