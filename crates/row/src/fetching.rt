@@ -61,11 +61,35 @@ fn fetch_path<S: BucketStore>(store: &mut S, number: RecordNumber, along: Path) 
     found
 }
 
-// Every bucket of the path is read and then written, wherever the block is, and then the queue is searched. For whoever has a store
-// by reference; a row does the same.
+// Every bucket of the path is read and then written, wherever the block is, and then the queue is searched, which is changed where it
+// stands.
+pub(crate) fn fetch_in_place<S: BucketStore>(
+    store: &mut S,
+    queue: &mut Queue,
+    depth: u32,
+    number: RecordNumber,
+    leaf: Leaf,
+) -> Result<Option<Block>, RowFault>
+    ensures answer { result_err result ≡ refusal depth (S.BucketStore.buckets store.old) (Some leaf) (fetch_moves depth) (S.BucketStore.span store.old) (S.BucketStore.log store.old) None }
+    ensures row { OnOk result (decoded_row (S.BucketStore.buckets store.new) queue.new ≡ fetched depth number.0 leaf.0 (decoded_row (S.BucketStore.buckets store.old) queue.old)) }
+    ensures block { IfOk result (λ block. block ≡ found depth number.0 leaf.0 (decoded_row (S.BucketStore.buckets store.old) queue.old)) }
+    ensures log { S.BucketStore.log store.new ≡ (if is_ok result then S.BucketStore.log store.old ++ fetch_entries depth leaf.0 else S.BucketStore.log store.old) }
+    ensures span { S.BucketStore.span store.new ≡ S.BucketStore.span store.old }
+    ensures count { length (S.BucketStore.buckets store.new) ≡ length (S.BucketStore.buckets store.old) }
+    ensures refused { is_err result ≡ true → store.new ≡ store.old }
+    ensures waits { is_err result ≡ true → queue.new ≡ queue.old }
+{
+    let along = along(store, depth, leaf, fetch_moves(depth))?;
+    let block = fetch_path(store, number, along);
+    let (left, waiting) = queue.take_out(number);
+    *queue = left;
+    Ok(block.or(waiting))
+}
+
+// The same for whoever has a store by reference and hands his queue on; a row does the same.
 pub fn fetch<S: BucketStore>(
     store: &mut S,
-    queue: Queue,
+    mut queue: Queue,
     depth: u32,
     number: RecordNumber,
     leaf: Leaf,
@@ -78,13 +102,8 @@ pub fn fetch<S: BucketStore>(
     ensures count { length (S.BucketStore.buckets store.new) ≡ length (S.BucketStore.buckets store.old) }
     ensures refused { is_err result ≡ true → store.new ≡ store.old }
 {
-    let along = along(store, depth, leaf, fetch_moves(depth))?;
-    let block = fetch_path(store, number, along);
-    let (queue, waiting) = queue.take_out(number);
-    Ok(Fetched {
-        queue,
-        block: block.or(waiting),
-    })
+    let block = fetch_in_place(store, &mut queue, depth, number, leaf)?;
+    Ok(Fetched { queue, block })
 }
 
 impl<S: BucketStore> Row<S> {
@@ -98,8 +117,6 @@ impl<S: BucketStore> Row<S> {
         ensures frame { Frame S.BucketStore self.old self.new }
         ensures refused { is_err result ≡ true → self.new ≡ self.old }
     {
-        let got = fetch(&mut self.store, self.queue, self.depth, number, leaf)?;
-        self.queue = got.queue;
-        Ok(got.block)
+        fetch_in_place(&mut self.store, &mut self.queue, self.depth, number, leaf)
     }
 }

@@ -66,9 +66,30 @@ pub fn flush<S: BucketStore>(store: &mut S, depth: u32, leaf: Leaf) -> Result<()
 }
 
 // The queue's first block goes back to the root, and then blocks sink along the path of the leaf.
+pub(crate) fn dequeue_in_place<S: BucketStore>(
+    store: &mut S,
+    queue: &mut Queue,
+    depth: u32,
+    leaf: Leaf,
+) -> Result<(), RowFault>
+    ensures answer { result_err result ≡ refusal depth (S.BucketStore.buckets store.old) (Some leaf) (dequeue_moves depth) (S.BucketStore.span store.old) (S.BucketStore.log store.old) None }
+    ensures row { OnOk result (decoded_row (S.BucketStore.buckets store.new) queue.new ≡ dequeued depth leaf.0 (decoded_row (S.BucketStore.buckets store.old) queue.old)) }
+    ensures log { S.BucketStore.log store.new ≡ (if is_ok result then S.BucketStore.log store.old ++ dequeue_entries depth leaf.0 else S.BucketStore.log store.old) }
+    ensures span { S.BucketStore.span store.new ≡ S.BucketStore.span store.old }
+    ensures count { length (S.BucketStore.buckets store.new) ≡ length (S.BucketStore.buckets store.old) }
+    ensures refused { is_err result ≡ true → store.new ≡ store.old }
+    ensures waits { is_err result ≡ true → queue.new ≡ queue.old }
+{
+    let along = along(store, depth, leaf, dequeue_moves(depth))?;
+    put_back_root(store, queue);
+    flush_path(store, along);
+    Ok(())
+}
+
+// The same for whoever hands his queue on.
 pub fn dequeue<S: BucketStore>(
     store: &mut S,
-    queue: Queue,
+    mut queue: Queue,
     depth: u32,
     leaf: Leaf,
 ) -> Result<Queue, RowFault>
@@ -79,10 +100,8 @@ pub fn dequeue<S: BucketStore>(
     ensures count { length (S.BucketStore.buckets store.new) ≡ length (S.BucketStore.buckets store.old) }
     ensures refused { is_err result ≡ true → store.new ≡ store.old }
 {
-    let along = along(store, depth, leaf, dequeue_moves(depth))?;
-    let left = put_back_root(store, queue);
-    flush_path(store, along);
-    Ok(left)
+    dequeue_in_place(store, &mut queue, depth, leaf)?;
+    Ok(queue)
 }
 
 impl<S: BucketStore> Row<S> {
@@ -106,7 +125,6 @@ impl<S: BucketStore> Row<S> {
         ensures frame { Frame S.BucketStore self.old self.new }
         ensures refused { is_err result ≡ true → self.new ≡ self.old }
     {
-        self.queue = dequeue(&mut self.store, self.queue, self.depth, leaf)?;
-        Ok(())
+        dequeue_in_place(&mut self.store, &mut self.queue, self.depth, leaf)
     }
 }

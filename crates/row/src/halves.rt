@@ -8,9 +8,9 @@ ghost use Rattle.tree.specs.Entries.{dequeues_entries};
 ghost use Rattle.tree.specs.Queues.{queued};
 
 use crate::fault::RowFault;
-use crate::flushing::dequeue;
+use crate::flushing::dequeue_in_place;
 use crate::moves::second_moves;
-use crate::queueing::arrive;
+use crate::queueing::arrive_in_place;
 use crate::row::Row;
 use crate::trial::trial;
 use store::interface::BucketStore;
@@ -54,24 +54,47 @@ fn second_trial<S: BucketStore>(
     }
 }
 
-// The queue with what arrives at its end, if something does.
-fn joined<S: BucketStore>(store: &S, queue: Queue, depth: u32, arrives: Option<Block>) -> Queue
+// What arrives, if something does, comes to the end of the queue.
+fn join<S: BucketStore>(store: &S, queue: &mut Queue, depth: u32, arrives: Option<Block>)
     requires fit { is_fit depth (length (S.BucketStore.buckets store.now)) ≡ true }
     requires leaf { arrival_fits depth arrives ≡ true }
-    requires room { has_room (waiting_for arrives (length (queued queue))) ≡ true }
-    ensures { decoded_row (S.BucketStore.buckets store.now) result ≡ arriving arrives (decoded_row (S.BucketStore.buckets store.now) queue) }
+    requires room { has_room (waiting_for arrives (length (queued queue.old))) ≡ true }
+    ensures { decoded_row (S.BucketStore.buckets store.now) queue.new ≡ arriving arrives (decoded_row (S.BucketStore.buckets store.now) queue.old) }
 {
-    match arrives {
-        Some(block) => arrive(store, queue, depth, block).unwrap(),
-        None => queue,
+    if let Some(block) = arrives {
+        arrive_in_place(store, queue, depth, block).unwrap();
     }
 }
 
 // A block arrives, or none, and a dequeue follows along each flush leaf. Both dequeues are made whether or not a block arrives: the
-// log must not tell. For whoever has a store by reference; a row does the same.
+// log must not tell.
+fn second_half_in_place<S: BucketStore>(
+    store: &mut S,
+    queue: &mut Queue,
+    depth: u32,
+    arrives: Option<Block>,
+    first: Leaf,
+    second: Leaf,
+) -> Result<(), RowFault>
+    ensures answer { result_err result ≡ second_refusal depth (length (S.BucketStore.buckets store.old)) arrives first second (S.BucketStore.span store.old) (length (S.BucketStore.log store.old)) (length (queued queue.old)) }
+    ensures row { OnOk result (decoded_row (S.BucketStore.buckets store.new) queue.new ≡ second_half depth arrives (first.0 ∷ second.0 ∷ []) (decoded_row (S.BucketStore.buckets store.old) queue.old)) }
+    ensures log { S.BucketStore.log store.new ≡ (if is_ok result then S.BucketStore.log store.old ++ dequeues_entries depth (first.0 ∷ second.0 ∷ []) else S.BucketStore.log store.old) }
+    ensures span { S.BucketStore.span store.new ≡ S.BucketStore.span store.old }
+    ensures count { length (S.BucketStore.buckets store.new) ≡ length (S.BucketStore.buckets store.old) }
+    ensures refused { is_err result ≡ true → store.new ≡ store.old }
+    ensures waits { is_err result ≡ true → queue.new ≡ queue.old }
+{
+    second_trial(store, queue, depth, arrives, first, second)?;
+    join(store, queue, depth, arrives);
+    dequeue_in_place(store, queue, depth, first).unwrap();
+    dequeue_in_place(store, queue, depth, second).unwrap();
+    Ok(())
+}
+
+// The same for whoever has a store by reference and hands his queue on; a row does the same.
 pub fn second_half<S: BucketStore>(
     store: &mut S,
-    queue: Queue,
+    mut queue: Queue,
     depth: u32,
     arrives: Option<Block>,
     first: Leaf,
@@ -84,11 +107,8 @@ pub fn second_half<S: BucketStore>(
     ensures count { length (S.BucketStore.buckets store.new) ≡ length (S.BucketStore.buckets store.old) }
     ensures refused { is_err result ≡ true → store.new ≡ store.old }
 {
-    second_trial(store, &queue, depth, arrives, first, second)?;
-    let longer = joined(store, queue, depth, arrives);
-    let once = dequeue(store, longer, depth, first).unwrap();
-    let twice = dequeue(store, once, depth, second).unwrap();
-    Ok(twice)
+    second_half_in_place(store, &mut queue, depth, arrives, first, second)?;
+    Ok(queue)
 }
 
 impl<S: BucketStore> Row<S> {
@@ -112,14 +132,13 @@ impl<S: BucketStore> Row<S> {
         ensures frame { Frame S.BucketStore self.old self.new }
         ensures refused { is_err result ≡ true → self.new ≡ self.old }
     {
-        self.queue = second_half(
+        second_half_in_place(
             &mut self.store,
-            self.queue,
+            &mut self.queue,
             self.depth,
             arrives,
             first,
             second,
-        )?;
-        Ok(())
+        )
     }
 }

@@ -31,39 +31,76 @@ fn put_first(root: &mut Bucket, queue: Queue) -> Queue
     }
 }
 
-// A block comes to the end of the queue. It moves nothing in the store, which is asked only whether there is such a row. A block whose
-// number waits already leaves the queue as it is. For whoever has a store by reference, as the other steps here; a row does the same.
+// A block comes to the end of the queue, which is changed where it stands. It moves nothing in the store, which is asked only whether
+// there is such a row. A block whose number waits already leaves the queue as it is.
+pub(crate) fn arrive_in_place<S: BucketStore>(
+    store: &S,
+    queue: &mut Queue,
+    depth: u32,
+    block: Block,
+) -> Result<(), RowFault>
+    ensures answer { result_err result ≡ refusal depth (S.BucketStore.buckets store.now) (Some block.leaf) 0 (S.BucketStore.span store.now) (S.BucketStore.log store.now) (Some (length (queued queue.old))) }
+    ensures row { OnOk result (decoded_row (S.BucketStore.buckets store.now) queue.new ≡ arriving (Some block) (decoded_row (S.BucketStore.buckets store.now) queue.old)) }
+    ensures waits { is_err result ≡ true → queue.new ≡ queue.old }
+{
+    trial(store, depth, &[block.leaf], 0, !queue.is_full())?;
+    if let Ok(longer) = queue.arrive(block) {
+        *queue = longer;
+    }
+    Ok(())
+}
+
+// The same for whoever hands his queue on and has the store by reference, as the other steps here; a row does the same.
 pub fn arrive<S: BucketStore>(
     store: &S,
-    queue: Queue,
+    mut queue: Queue,
     depth: u32,
     block: Block,
 ) -> Result<Queue, RowFault>
     ensures answer { result_err result ≡ refusal depth (S.BucketStore.buckets store.now) (Some block.leaf) 0 (S.BucketStore.span store.now) (S.BucketStore.log store.now) (Some (length (queued queue))) }
     ensures row { IfOk result (λ q. decoded_row (S.BucketStore.buckets store.now) q ≡ arriving (Some block) (decoded_row (S.BucketStore.buckets store.now) queue)) }
 {
-    trial(store, depth, &[block.leaf], 0, !queue.is_full())?;
-    match queue.arrive(block) {
-        Ok(longer) => Ok(longer),
-        Err(_) => Ok(queue),
-    }
+    arrive_in_place(store, &mut queue, depth, block)?;
+    Ok(queue)
 }
 
 // The root is read and written also where nothing changes: the log must not tell whether a block waited or found a place.
-pub(crate) fn put_back_root<S: BucketStore>(store: &mut S, queue: Queue) -> Queue
+pub(crate) fn put_back_root<S: BucketStore>(store: &mut S, queue: &mut Queue)
     requires some { 1 ≤ length (S.BucketStore.buckets store.old) }
     requires free { length (S.BucketStore.log store.old) + put_back_moves ≤ S.BucketStore.span store.old }
-    ensures row { decoded_row (S.BucketStore.buckets store.new) result ≡ put_back (decoded_row (S.BucketStore.buckets store.old) queue) }
+    ensures row { decoded_row (S.BucketStore.buckets store.new) queue.new ≡ put_back (decoded_row (S.BucketStore.buckets store.old) queue.old) }
     ensures moves { Moved S.BucketStore store.old store.new put_back_entries }
 {
     let mut root = read_bucket(store, ROOT);
-    let left = put_first(&mut root, queue);
+    *queue = put_first(&mut root, *queue);
     write_bucket(store, ROOT, &root);
-    left
 }
 
 // The queue's first block goes back to the root, if that has an empty place; otherwise it stays first.
-pub fn put_back<S: BucketStore>(store: &mut S, queue: Queue, depth: u32) -> Result<Queue, RowFault>
+pub(crate) fn put_back_in_place<S: BucketStore>(
+    store: &mut S,
+    queue: &mut Queue,
+    depth: u32,
+) -> Result<(), RowFault>
+    ensures answer { result_err result ≡ refusal depth (S.BucketStore.buckets store.old) None put_back_moves (S.BucketStore.span store.old) (S.BucketStore.log store.old) None }
+    ensures row { OnOk result (decoded_row (S.BucketStore.buckets store.new) queue.new ≡ put_back (decoded_row (S.BucketStore.buckets store.old) queue.old)) }
+    ensures log { S.BucketStore.log store.new ≡ (if is_ok result then S.BucketStore.log store.old ++ put_back_entries else S.BucketStore.log store.old) }
+    ensures span { S.BucketStore.span store.new ≡ S.BucketStore.span store.old }
+    ensures count { length (S.BucketStore.buckets store.new) ≡ length (S.BucketStore.buckets store.old) }
+    ensures refused { is_err result ≡ true → store.new ≡ store.old }
+    ensures waits { is_err result ≡ true → queue.new ≡ queue.old }
+{
+    trial(store, depth, &[], 2, true)?;
+    put_back_root(store, queue);
+    Ok(())
+}
+
+// The same for whoever hands his queue on.
+pub fn put_back<S: BucketStore>(
+    store: &mut S,
+    mut queue: Queue,
+    depth: u32,
+) -> Result<Queue, RowFault>
     ensures answer { result_err result ≡ refusal depth (S.BucketStore.buckets store.old) None put_back_moves (S.BucketStore.span store.old) (S.BucketStore.log store.old) None }
     ensures row { IfOk result (λ q. decoded_row (S.BucketStore.buckets store.new) q ≡ put_back (decoded_row (S.BucketStore.buckets store.old) queue)) }
     ensures log { S.BucketStore.log store.new ≡ (if is_ok result then S.BucketStore.log store.old ++ put_back_entries else S.BucketStore.log store.old) }
@@ -71,8 +108,8 @@ pub fn put_back<S: BucketStore>(store: &mut S, queue: Queue, depth: u32) -> Resu
     ensures count { length (S.BucketStore.buckets store.new) ≡ length (S.BucketStore.buckets store.old) }
     ensures refused { is_err result ≡ true → store.new ≡ store.old }
 {
-    trial(store, depth, &[], 2, true)?;
-    Ok(put_back_root(store, queue))
+    put_back_in_place(store, &mut queue, depth)?;
+    Ok(queue)
 }
 
 impl<S: BucketStore> Row<S> {
@@ -85,8 +122,7 @@ impl<S: BucketStore> Row<S> {
         ensures depth { self.new.depth ≡ self.old.depth }
         ensures refused { is_err result ≡ true → self.new ≡ self.old }
     {
-        self.queue = arrive(&self.store, self.queue, self.depth, block)?;
-        Ok(())
+        arrive_in_place(&self.store, &mut self.queue, self.depth, block)
     }
 
     // The queue's first block goes back to the root, if that has an empty place; otherwise it stays first.
@@ -97,7 +133,6 @@ impl<S: BucketStore> Row<S> {
         ensures frame { Frame S.BucketStore self.old self.new }
         ensures refused { is_err result ≡ true → self.new ≡ self.old }
     {
-        self.queue = put_back(&mut self.store, self.queue, self.depth)?;
-        Ok(())
+        put_back_in_place(&mut self.store, &mut self.queue, self.depth)
     }
 }
