@@ -61,9 +61,9 @@ fn fetch_path<S: BucketStore>(store: &mut S, number: RecordNumber, along: Path) 
     found
 }
 
-// Every bucket of the path is read and then written, wherever the block is, and then the queue is searched, which is changed where it
-// stands.
-pub(crate) fn fetch_in_place<S: BucketStore>(
+// Every bucket of the path is read and then written, wherever the block is, and then the queue is searched. It is
+// changed, and not copied.
+fn fetch_in_place<S: BucketStore>(
     store: &mut S,
     queue: &mut Queue,
     depth: u32,
@@ -86,7 +86,7 @@ pub(crate) fn fetch_in_place<S: BucketStore>(
     Ok(block.or(waiting))
 }
 
-// The same for whoever has a store by reference and hands his queue on; a row does the same.
+// The same with a queue that is handed in and comes back with the block. For whoever has a store by reference and no row.
 pub fn fetch<S: BucketStore>(
     store: &mut S,
     mut queue: Queue,

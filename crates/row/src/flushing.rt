@@ -51,7 +51,7 @@ fn flush_path<S: BucketStore>(store: &mut S, along: Path)
 }
 
 // At each layer of the path at most one block moves one bucket down, root first: a moved block may move on. For whoever has a store
-// by reference, as the next; a row does the same.
+// by reference and no row, as `dequeue` below.
 pub fn flush<S: BucketStore>(store: &mut S, depth: u32, leaf: Leaf) -> Result<(), RowFault>
     ensures answer { result_err result ≡ refusal depth (S.BucketStore.buckets store.old) (Some leaf) (flush_moves depth) (S.BucketStore.span store.old) (S.BucketStore.log store.old) None }
     ensures buckets { OnOk result (decoded (S.BucketStore.buckets store.new) ≡ flushed_to depth leaf.0 (decoded (S.BucketStore.buckets store.old)) depth) }
@@ -86,7 +86,7 @@ pub(crate) fn dequeue_in_place<S: BucketStore>(
     Ok(())
 }
 
-// The same for whoever hands his queue on.
+// The same with a queue that is handed in and comes back.
 pub fn dequeue<S: BucketStore>(
     store: &mut S,
     mut queue: Queue,

@@ -91,7 +91,7 @@ fn second_half_in_place<S: BucketStore>(
     Ok(())
 }
 
-// The same for whoever has a store by reference and hands his queue on; a row does the same.
+// The same with a queue that is handed in and comes back. For whoever has a store by reference and no row.
 pub fn second_half<S: BucketStore>(
     store: &mut S,
     mut queue: Queue,

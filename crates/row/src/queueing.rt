@@ -31,7 +31,7 @@ fn put_first(root: &mut Bucket, queue: Queue) -> Queue
     }
 }
 
-// A block comes to the end of the queue, which is changed where it stands. It moves nothing in the store, which is asked only whether
+// A block comes to the end of the queue, which is changed and not copied. It moves nothing in the store, which is asked only whether
 // there is such a row. A block whose number waits already leaves the queue as it is.
 pub(crate) fn arrive_in_place<S: BucketStore>(
     store: &S,
@@ -50,7 +50,7 @@ pub(crate) fn arrive_in_place<S: BucketStore>(
     Ok(())
 }
 
-// The same for whoever hands his queue on and has the store by reference, as the other steps here; a row does the same.
+// The same with a queue that is handed in and comes back. For whoever has a store by reference and no row, as `put_back` below.
 pub fn arrive<S: BucketStore>(
     store: &S,
     mut queue: Queue,
@@ -77,7 +77,7 @@ pub(crate) fn put_back_root<S: BucketStore>(store: &mut S, queue: &mut Queue)
 }
 
 // The queue's first block goes back to the root, if that has an empty place; otherwise it stays first.
-pub(crate) fn put_back_in_place<S: BucketStore>(
+fn put_back_in_place<S: BucketStore>(
     store: &mut S,
     queue: &mut Queue,
     depth: u32,
@@ -95,7 +95,7 @@ pub(crate) fn put_back_in_place<S: BucketStore>(
     Ok(())
 }
 
-// The same for whoever hands his queue on.
+// The same with a queue that is handed in and comes back.
 pub fn put_back<S: BucketStore>(
     store: &mut S,
     mut queue: Queue,

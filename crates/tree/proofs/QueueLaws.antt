@@ -1,9 +1,10 @@
 -- Laws of lists of blocks: a search for a number, a block that leaves, and one that comes.
 use Rattle.std.proofs.Common.{◌≡◌, ℕ, zero, suc, ◌+◌, ◌-◌, ◌<◌, ◌≤◌, true, false, not, eqb, List, [], ◌∷◌, ◌++◌, length, get_or, take, drop, set, Some, None, sym, refl, ap, ◌∙◌, subst, add-one, arith}
-use Rattle.std.proofs.lemmas.List.{append_assoc, length-take-le, length-drop, take-append-le, take_all, take_more_set, get_or-take}
+use Rattle.std.proofs.lemmas.List.{length-take-le, length-drop, take_all, take_more_set, get_or-take}
 use Rattle.std.proofs.lemmas.Bool.{not-true, not_from_false, and_parts, and_from, or_parts, or_from, ltb-false, ltb-true, eqb-true, eqb-false, ne_eqb, cond-true, cond-false}
 use Rattle.std.proofs.lemmas.List.Folds.{find_at, list_any-append, list_any_none}
-use Rattle.std.proofs.lemmas.List.Edits.{length-remove, paste_all}
+use Rattle.std.proofs.lemmas.List.Edits.{take-paste}
+use Rattle.std.proofs.Math.Seq.{paste}
 use Rattle.std.proofs.lemmas.List.Sums.{fails_before_first, passes_at_first}
 use Rattle.std.proofs.lemmas.Option.{cond_some, slice_get_past, slice_get-get_or}
 use Rattle.std.specs.List.{copy_within, position, position_or_len, slice_get}
@@ -108,15 +109,24 @@ lacking-take zero n (b ∷ bs) h l = refl
 lacking-take (suc i) zero (b ∷ bs) h l = absurd (omega arith)
 lacking-take (suc i) (suc n) (b ∷ bs) h l = ap (λ xs. b ∷ xs) (lacking-take i n bs (omega arith) (omega arith))
 
-moved_up : (i n : ℕ) (bs : List Block) → i ≤ n → n < length bs
-    → take n (copy_within bs (i + 1) (length bs) i) ≡ lacking i (take (suc n) bs)
+-- the first n blocks of a list that has lost one: those before it, and then the later ones
+lacking_front : (i k n : ℕ) (bs : List Block) → n ≡ i + k → n < length bs → take i bs ++ take k (drop (suc i) bs) ≡ take n (lacking i bs)
+lacking_front i k n [] e l = absurd (omega arith)
+lacking_front zero k n (b ∷ bs) e l = ap (λ m. take m bs) (omega arith)
+lacking_front (suc i) k zero (b ∷ bs) e l = absurd (omega arith)
+lacking_front (suc i) k (suc n) (b ∷ bs) e l = ap (λ xs. b ∷ xs) (lacking_front i k n bs (omega arith) (omega arith))
+
+moved_up : (i n : ℕ) (bs : List Block) → i ≤ n → n < length bs → take n (copy_within bs (i + 1) (suc n) i) ≡ lacking i (take (suc n) bs)
 moved_up i n bs h l =
-    let rest = drop (i + (length bs - (i + 1))) bs in
-    let long = length-remove bs i (omega arith) in
-    let whole : copy_within bs (i + 1) (length bs) i ≡ lacking i bs ++ rest =
-    paste_all bs i (drop (i + 1) bs) (length bs - (i + 1)) (sym (length-drop (i + 1) bs))
-    ∙ (sym (append_assoc (take i bs) (drop (i + 1) bs) rest) ∙ ap (λ k. (take i bs ++ drop k bs) ++ rest) (add-one i)) in
-    ap (take n) whole ∙ (take-append-le n (lacking i bs) rest (omega arith) ∙ lacking-take i n bs h l)
+    let later = drop (i + 1) bs in
+    let long = length-drop (i + 1) bs in
+    let few : suc n - (i + 1) ≡ n - i = omega arith in
+    let all : i + (n - i) ≡ n = omega arith in
+    ap (λ m. take n (paste bs i later m)) few
+    ∙ (ap (λ m. take m (paste bs i later (n - i))) (sym all)
+    ∙ (take-paste bs i later (n - i) (omega arith) (omega arith)
+    ∙ (ap (λ m. take i bs ++ take (n - i) (drop m bs)) (add-one i)
+    ∙ (lacking_front i (n - i) n bs (sym all) l ∙ lacking-take i n bs h l))))
 
 -- The same of a queue, whose blocks stand at the front of thirty-two.
 
@@ -130,12 +140,13 @@ count_room q e =
     omega (arith, q.few)
 
 -- the block at an index leaves
-pub left_at : (q : Queue) (i : ℕ) (ys : List Block) → i < q.count → ys ≡ copy_within q.blocks (i + 1) (length q.blocks) i
+pub left_at : (q : Queue) (i : ℕ) (ys : List Block) → i < q.count → ys ≡ copy_within q.blocks (i + 1) q.count i
     → take (q.count - 1) ys ≡ lacking i (queued q)
 left_at q i ys k e =
     let one : suc (q.count - 1) ≡ q.count = omega arith in
     ap (take (q.count - 1)) e
-    ∙ (moved_up i (q.count - 1) q.blocks (omega arith) (omega arith) ∙ ap (λ j. lacking i (take j q.blocks)) one)
+    ∙ (ap (λ n. take (q.count - 1) (copy_within q.blocks (i + 1) n i)) (sym one)
+    ∙ (moved_up i (q.count - 1) q.blocks (omega arith) (omega arith) ∙ ap (λ j. lacking i (take j q.blocks)) one))
 
 pub left_numbered : (n : ℕ) (q : Queue) (i : ℕ) (d : Block) → Some i ≡ position (numbered n) (queued q) → lacking i (queued q) ≡ others n (queued q)
 left_numbered n q i d e =

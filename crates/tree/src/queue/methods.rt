@@ -120,13 +120,14 @@ impl Queue {
         self.remove(0)
     }
 
-    // The block at an index leaves, and the later blocks move up, so that the queue stays packed and in order.
+    // The block at an index leaves, and the later blocks move up, so that the queue stays packed and in order. What stands behind the
+    // queue's blocks is not moved with them.
     fn remove(self, i: usize) -> Queue
         requires { i < self.count }
         ensures { queued result ≡ lacking i (queued self) }
     {
         let mut blocks = self.blocks;
-        blocks.copy_within(i + 1.., i);
+        blocks.copy_within(i + 1..self.count, i);
         Queue {
             blocks,
             count: self.count - 1,
