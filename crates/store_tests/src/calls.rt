@@ -24,7 +24,11 @@ pub struct Shown {
     log: Vec<Result<BucketNumber, StoreFault>>,
 }
 
-pub fn play<S: StoreUpkeep>(alloc: Global, store: &mut S, call: Call) -> Result<Shown, AllocError> {
+pub(crate) fn play<S: StoreUpkeep>(
+    alloc: Global,
+    store: &mut S,
+    call: Call,
+) -> Result<Shown, AllocError> {
     let mut place = [7; 40];
     let answer = match call {
         Call::Read(n) => store.read(BucketNumber(n), &mut place),
